@@ -1,0 +1,3 @@
+pub mod Alphabet
+pub mod Automaton
+pub mod Strings
