@@ -1,2 +1,3 @@
 pub mod Two
 pub mod Trends
+pub mod Seepages

@@ -1,0 +1,4 @@
+pub mod Backward
+pub mod Trail
+pub mod Laws
+pub mod Exact
