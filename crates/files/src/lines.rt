@@ -51,7 +51,7 @@ pub fn classify(line: &[u8]) -> Result<Line<'_>, Fault>
 }
 
 // How many bytes stand before the first newline, or in all.
-pub fn line_len(bytes: &[u8]) -> usize
+fn line_len(bytes: &[u8]) -> usize
     ensures within { λ r. ⌜ r ≤ length (now (bytes .entry)) ⌝ }
     ensures before { λ r. ⌜ ((k : ℕ) → k < r → getD (now (bytes .entry)) k 0 ≡ 10 → ⊥) ⌝ }
     ensures found { λ r. ⌜ (r < length (now (bytes .entry)) → getD (now (bytes .entry)) r 0 ≡ 10) ⌝ }
