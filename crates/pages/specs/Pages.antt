@@ -3,6 +3,7 @@
 --   over xs ys       ys with xs written over its front, as much of xs as ys has room for
 --   Holds p xs ys    on the page p, which first held ys, xs was written
 --   Wrote p q more   the page q is p after `more` was written on it
+--   labelled a n b  the label a, the digits of n, and the end b
 --   columns w n      n right-justified with blanks in w columns, in more where it has more digits
 use mathlib.Core.Path.{_≡_}
 use mathlib.Core.List.{List, [], _∷_, _++_}
@@ -27,3 +28,6 @@ pub record Wrote (p q : Page) (more : List ℕ) : Type 0 where
 
 abbrev pub columns : ℕ → ℕ → List ℕ
 columns w n = replicate (w - length (decimal n)) 32 ++ decimal n
+
+abbrev pub labelled : List ℕ → ℕ → List ℕ → List ℕ
+labelled a n b = a ++ (decimal n ++ b)

@@ -5,7 +5,7 @@ ghost use Prim.Native.Nat.{ℕ};
 ghost use denote.Ref.{name};
 ghost use lib.ListN.{length, replicate};
 ghost use Rattle.std.specs.Written.{decimal};
-ghost use Rattle.pages.specs.Pages.{Holds, Wrote, columns as columnsOf};
+ghost use Rattle.pages.specs.Pages.{Holds, Wrote, labelled as labelledBy, columns as columnsOf};
 
 #[derive(Drop)]
 pub struct Page<'a> {
@@ -65,6 +65,15 @@ impl<'a> Page<'a> {
             self.number(n / 10);
         }
         self.push(b'0' + (n % 10) as u8);
+    }
+
+    // A label, the digits of n, and an end.
+    pub fn labelled(&mut self, label: &[u8], n: usize, end: &[u8])
+        ensures { λ _. ⌜ Wrote (now (self .entry)) (now (self .exit)) (labelledBy (now (label .entry)) n (now (end .entry))) ⌝ }
+    {
+        self.put(label);
+        self.number(n);
+        self.put(end);
     }
 
     // n, right-justified with blanks in `width` columns.

@@ -1,0 +1,125 @@
+// What is found of a text, and the report of it.
+ghost use mathlib.Core.Path.{_≡_};
+ghost use mathlib.Core.List.{_++_, _∷_, []};
+ghost use Rattle.pages.specs.Pages.{Wrote};
+ghost use Rattle.checks.specs.Reports.{finding, shown, letter-bytes, kind-line, limit-line, automaton-line, text-lines, verdict as verdictOf};
+use automata::Automaton;
+use faults::Fault;
+use letters::Letter;
+use letters::Printable;
+use letters::Seepage;
+use letters::Trend;
+use letters::Two;
+use pages::Page;
+use stations::Kind;
+use texts::check_bytes;
+use letters::SeepagePrintable;
+use letters::TrendPrintable;
+use letters::TwoPrintable;
+
+// What came of a text: the automaton's count of states and its memory, the letters of the text, and the place of the
+// letter at which it is stopped.
+#[derive(Clone, Copy)]
+pub struct Finding {
+    pub states: usize,
+    pub memory: usize,
+    pub letters: usize,
+    pub stopped: Option<usize>,
+}
+
+#[derive(Clone, Copy)]
+pub struct Report {
+    pub kind: Kind,
+    pub limit: Option<u16>,
+    pub finding: Finding,
+}
+
+// Checks `text` by `automaton`.
+pub fn judge<S: Automaton>(automaton: &S, text: &[u8]) -> Result<Finding, Fault>
+where
+    S::Kind: Printable,
+    ensures { λ r. ⌜ r ≡ finding (model (now (automaton .entry))) (Kind·Letter .alphabet) (Kind·Printable .parsed) (now (text .entry)) ⌝ }
+{
+    let stopped = check_bytes(automaton, text)?;
+    Ok(Finding {
+        states: automaton.states() as usize,
+        memory: automaton.memory() as usize,
+        letters: text.len(),
+        stopped,
+    })
+}
+
+// Writes the letters of a kind, by number.
+fn show_letters<L: Printable>(page: &mut Page<'_>)
+    ensures { λ _. ⌜ Wrote (now (page .entry)) (now (page .exit)) (letter-bytes (L·Printable .printed) (L·Letter .alphabet .size)) ⌝ }
+{
+    for n in 0..L::count() {
+        if let Some(letter) = L::from_number(n) {
+            page.push(letter.byte());
+        }
+    }
+}
+
+// Writes the line of a kind: its name, and its letters.
+fn show_named<L: Printable>(label: &[u8], page: &mut Page<'_>)
+    ensures { λ _. ⌜ Wrote (now (page .entry)) (now (page .exit)) (now (label .entry) ++ (letter-bytes (L·Printable .printed) (L·Letter .alphabet .size) ++ (10 ∷ []))) ⌝ }
+{
+    page.put(label);
+    show_letters::<L>(page);
+    page.push(b'\n');
+}
+
+fn show_kind(kind: Kind, page: &mut Page<'_>)
+    ensures { λ _. ⌜ Wrote (now (page .entry)) (now (page .exit)) (kind-line kind) ⌝ }
+{
+    match kind {
+        Kind::Two => show_named::<Two>(b"kind A: ", page),
+        Kind::Trend => show_named::<Trend>(b"kind P: ", page),
+        Kind::Seepage => show_named::<Seepage>(b"kind Q: ", page),
+    }
+}
+
+fn show_limit(limit: Option<u16>, page: &mut Page<'_>)
+    ensures { λ _. ⌜ Wrote (now (page .entry)) (now (page .exit)) (limit-line limit) ⌝ }
+{
+    match limit {
+        Some(r) => page.labelled(b"run limit: ", r as usize, b"\n"),
+        None => page.put(b"run limit: none\n"),
+    }
+}
+
+fn show_automaton(finding: &Finding, page: &mut Page<'_>)
+    ensures { λ _. ⌜ Wrote (now (page .entry)) (now (page .exit)) (automaton-line (now (finding .entry))) ⌝ }
+{
+    page.labelled(b"automaton: ", finding.states, b" states, memory ");
+    page.labelled(b"", finding.memory, b"\n");
+}
+
+fn show_verdict(stopped: Option<usize>, page: &mut Page<'_>)
+    ensures { λ _. ⌜ Wrote (now (page .entry)) (now (page .exit)) (verdictOf stopped) ⌝ }
+{
+    match stopped {
+        Some(place) => page.labelled(b"stopped at ", place, b"\n"),
+        None => page.put(b"passes\n"),
+    }
+}
+
+fn show_text(finding: &Finding, page: &mut Page<'_>)
+    ensures { λ _. ⌜ Wrote (now (page .entry)) (now (page .exit)) (text-lines (now (finding .entry))) ⌝ }
+{
+    page.labelled(b"text: ", finding.letters, b" letters\n");
+    page.labelled(b"walked: ", finding.stopped.unwrap_or(finding.letters), b" letters\n");
+    show_verdict(finding.stopped, page);
+}
+
+impl Report {
+    // Writes the report.
+    pub fn show(&self, page: &mut Page<'_>)
+        ensures { λ _. ⌜ Wrote (now (page .entry)) (now (page .exit)) (shown (now (self .entry))) ⌝ }
+    {
+        show_kind(self.kind, page);
+        show_limit(self.limit, page);
+        show_automaton(&self.finding, page);
+        show_text(&self.finding, page);
+    }
+}
