@@ -71,7 +71,7 @@ gather-kept (v ∷ vs) ws h =
     let e = with-old ws v (h v (or-left (same v v) (member vs v) (same-refl v))) in
     ap (λ (l : List Word). gather l vs) e ∙ gather-kept vs ws (λ u k. h u (or-right (same v u) (member vs u) k))
 
-with-length : (ws : List Word) (v : Word) → length ws ≤ length (with ws v)
+pub with-length : (ws : List Word) (v : Word) → length ws ≤ length (with ws v)
 with-length ws v = ⊎-elim
     (λ e. omega (arith, ap length (with-old ws v e)))
     (λ e. omega (arith, ap length (with-new ws v e), length-push ws v))

@@ -12,7 +12,7 @@ use Rattle.std.proofs.shelf.Lists.{map-append, joined-more, take-more, length-t
 use Rattle.std.proofs.shelf.Tests.{or-cases, or-left, or-right, cases-bool, both-ways}
 use Rattle.listlaw.specs.Patterns.{Word, same, member, place, gather, fronts, states, extent, memory}
 use Rattle.listlaw.proofs.Members.{same-refl, same-eq, never, member-left, member-right, member-cases}
-use Rattle.listlaw.proofs.Gathering.{with, with-new, gather-append, gather-left, gather-right, gather-cases, gather-kept, gather-first, gather-length, Places, places-gather}
+use Rattle.listlaw.proofs.Gathering.{with, with-new, gather-append, gather-left, gather-right, gather-cases, gather-kept, gather-first, gather-length, with-length, Places, places-gather}
 
 -- words under one first letter
 under-in : (x : ℕ) (vs : List Word) (v : Word) → member vs v ≡ true → member (map (λ w. x ∷ w) vs) (x ∷ v) ≡ true
@@ -136,3 +136,32 @@ states-short ps w h = ⊎-elim
 pub extent-push : (ps : List Word) (p : Word) → extent (ps ++ (p ∷ [])) ≡ max (extent ps) (length p)
 extent-push [] p = omega arith
 extent-push (q ∷ ps) p = omega (arith, extent-push ps p)
+
+module _ (ws : List Word) (p : Word) where
+  closed-take : Closed ws → (j d : ℕ) → j + d ≤ length p → member ws (take (j + d) p) ≡ true → member ws (take j p) ≡ true
+  closed-take closed j zero h m = rw add-zero at m
+  closed-take closed j (suc d) h m =
+      let e : j + suc d ≡ j + d + 1 = omega arith in
+      let cut : take (j + suc d) p ≡ take (j + d) p ++ (getD p (j + d) 0 ∷ []) = ap (λ (n : ℕ). take n p) e ∙ take-more p (j + d) 0 (omega arith) in
+      closed-take closed j d (omega arith) (closed (take (j + d) p) (getD p (j + d) 0) (sym (ap (member ws) cut) ∙ m))
+
+  -- the prefixes up to k letters are there, and the next is not: then each longer one is new
+  pub gather-missing : Closed ws → (k : ℕ) → gather ws (fronts (take (k + 1) p)) ≡ ws → member ws (take (k + 1) p) ≡ false → (d : ℕ) → k + d < length p → length (gather ws (fronts (take (k + d + 1) p))) ≡ length ws + d
+  gather-missing closed k known new zero h =
+      let e : k + 0 + 1 ≡ k + 1 = omega arith in
+      omega (arith, ap (λ (n : ℕ). length (gather ws (fronts (take n p)))) e, ap length known)
+  gather-missing closed k known new (suc d) h =
+      let m : ℕ = k + d + 1 in
+      let e : k + suc d + 1 ≡ m + 1 = omega arith in
+      let f : k + 1 + d ≡ m = omega arith in
+      let long = length-take-le m p (omega arith) in
+      let out : member (gather ws (fronts (take m p))) (take m p) ≡ false = never (member (gather ws (fronts (take m p))) (take m p)) (λ t. ⊎-elim
+          (λ a. both-ways (member ws (take (k + 1) p)) new (closed-take closed (k + 1) d (omega arith) (ap (λ (n : ℕ). member ws (take n p)) f ∙ a)))
+          (λ a. let r = front-from (take m p) (take m p) a in omega (arith, ap length (r .1 .1), length-append (take m p) (r .0 ∷ r .1 .0)))
+          (gather-cases (fronts (take m p)) ws (take m p) t)) in
+      omega (arith, ap (λ (n : ℕ). length (gather ws (fronts (take n p)))) e, ap length (gather-more ws p m (omega arith)), ap length (with-new (gather ws (fronts (take m p))) (take m p) out), length-push (gather ws (fronts (take m p))) (take m p), gather-missing closed k known new d (omega arith))
+
+  -- fewer prefixes bring no more states
+  pub gather-fewer : (m d : ℕ) → m + d ≡ length p → length (gather ws (fronts (take m p))) ≤ length (gather ws (fronts p))
+  gather-fewer m zero h = omega (arith, ap (λ (l : Word). length (gather ws (fronts l))) (take-all m p (omega arith)))
+  gather-fewer m (suc d) h = omega (arith, gather-fewer (m + 1) d (omega arith), ap length (gather-more ws p m (omega arith)), with-length (gather ws (fronts (take m p))) (take m p))

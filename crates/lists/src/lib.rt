@@ -1,0 +1,5 @@
+// A list of forbidden patterns over two lent tables: it takes patterns one by one, and is finished into an automaton.
+pub mod record;
+pub mod trie;
+
+pub use record::Record;
