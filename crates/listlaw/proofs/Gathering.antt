@@ -100,12 +100,12 @@ places-gather (v ∷ vs) ws p = places-gather vs (with ws v) (⊎-elim
     (λ e. subst Places (sym (with-new ws v e)) (places-push ws v p e))
     (cases-bool (member ws v)))
 
--- the first stays the first
-pub gather-first : (vs ws : List Word) (d : Word) → 0 < length ws → getD (gather ws vs) 0 d ≡ getD ws 0 d
-gather-first [] ws d h = refl
-gather-first (v ∷ vs) ws d h =
-    gather-first vs (with ws v) d (omega (arith, with-length ws v))
+-- what was there stays where it was
+pub gather-at : (vs ws : List Word) (d : Word) (i : ℕ) → i < length ws → getD (gather ws vs) i d ≡ getD ws i d
+gather-at [] ws d i h = refl
+gather-at (v ∷ vs) ws d i h =
+    gather-at vs (with ws v) d i (omega (arith, with-length ws v))
     ∙ ⊎-elim
-        (λ e. ap (λ (l : List Word). getD l 0 d) (with-old ws v e))
-        (λ e. ap (λ (l : List Word). getD l 0 d) (with-new ws v e) ∙ getD-append-left ws (v ∷ []) d 0 h)
+        (λ e. ap (λ (l : List Word). getD l i d) (with-old ws v e))
+        (λ e. ap (λ (l : List Word). getD l i d) (with-new ws v e) ∙ getD-append-left ws (v ∷ []) d i h)
         (cases-bool (member ws v))

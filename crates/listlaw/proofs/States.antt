@@ -12,7 +12,7 @@ use Rattle.std.proofs.shelf.Lists.{map-append, joined-more, take-more, length-t
 use Rattle.std.proofs.shelf.Tests.{or-cases, or-left, or-right, cases-bool, both-ways}
 use Rattle.listlaw.specs.Patterns.{Word, same, member, place, gather, fronts, states, extent, memory}
 use Rattle.listlaw.proofs.Members.{same-refl, same-eq, never, member-left, member-right, member-cases}
-use Rattle.listlaw.proofs.Gathering.{with, with-new, gather-append, gather-left, gather-right, gather-cases, gather-kept, gather-first, gather-length, with-length, Places, places-gather}
+use Rattle.listlaw.proofs.Gathering.{with, with-new, gather-append, gather-left, gather-right, gather-cases, gather-kept, gather-at, gather-length, with-length, Places, places-gather}
 
 -- words under one first letter
 under-in : (x : ℕ) (vs : List Word) (v : Word) → member vs v ≡ true → member (map (λ w. x ∷ w) vs) (x ∷ v) ≡ true
@@ -91,7 +91,7 @@ state-from ps w h = ⊎-elim
     (gather-cases (joined fronts ps) ([] ∷ []) w h)
 
 pub states-first : (ps : List Word) → getD (states ps) 0 [] ≡ []
-states-first ps = gather-first (joined fronts ps) ([] ∷ []) [] (omega arith)
+states-first ps = gather-at (joined fronts ps) ([] ∷ []) [] 0 (omega arith)
 
 pub states-some : (ps : List Word) → 1 ≤ length (states ps)
 states-some ps = omega (arith, gather-length (joined fronts ps) ([] ∷ []))
