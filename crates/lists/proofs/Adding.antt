@@ -1,0 +1,61 @@
+-- When a pattern is refused, and what is held once it is taken. Assumes nothing.
+use mathlib.Core.Path.{_≡_, refl, sym, ap, subst, _∙_}
+use mathlib.Core.Bool.{Bool, true, false, cond, _||_}
+use mathlib.Core.List.{List, [], _∷_, _++_, map}
+use Prim.Native.Nat.{ℕ, _+_, _-_, _*_, _/_, _≤_, _<_, min}
+use native.Mathlib.Omega.{arith}
+use lib.Dec.{eqb, ltb, leb}
+use lib.ListN.{length, getD, take}
+use Rattle.std.specs.declared.option.Option.{Option}
+use Rattle.std.specs.declared.option.Option.the-variants.{Some, None}
+use Rattle.std.proofs.shelf.Bits.{le-div}
+use Rattle.std.proofs.shelf.Lists.{map-push, length-map, getD-map, getD-past}
+use Rattle.std.proofs.shelf.Tests.{le-ltb, ne-eqb, cond-true, cond-false, or-from, cases-lt}
+use Rattle.models.specs.Alphabet.{Alphabet, Numbered}
+use Rattle.faults.specs.declared.Fault.{Fault}
+use Rattle.faults.specs.Causes.{bad-length, full-list, short-tables}
+use Rattle.listlaw.specs.Patterns.{Word, coded, gather, fronts, states}
+use Rattle.listlaw.proofs.States.{states-push}
+use Rattle.lists.specs.declared.record.Record.{Record}
+use Rattle.lists.specs.Names.{names}
+use Rattle.lists.specs.Lists.{columns, Lists}
+use Rattle.lists.specs.Taking.{Roomy, Holds, full, cause}
+
+module _ {K : Type 0} (A : Alphabet K) where
+  pub coded-push : (ps : List (List K)) (p : List K) → coded A (ps ++ (p ∷ [])) ≡ coded A ps ++ (map (A .number) p ∷ [])
+  coded-push ps p = map-push (map (A .number)) ps p
+
+  -- a letter's number is below the columns of words that are long enough
+  pub letters-small : Numbered A → (words : List ℕ) (n : ℕ) → Roomy A n (length words) → (p : List K) (i : ℕ) → i < length p → getD (map (A .number) p) i 0 < columns words
+  letters-small numbered words n roomy [] i h = absurd (omega arith)
+  letters-small numbered words n roomy (x ∷ p) i h =
+      let d = le-div (A .size) (length words) 512 (omega arith) (omega (arith, roomy .1)) in
+      let k : getD (map (A .number) (x ∷ p)) i 0 < A .size = omega (arith, getD-map (A .number) (x ∷ p) i x 0 h, numbered .below (getD (x ∷ p) i x)) in
+      omega (arith, numbered .few)
+
+  module _ (ns : List Record) (words : List ℕ) (used taken longest : ℕ) (ps : List (List K)) (holds : Holds A ns words used taken longest ps) (p : List K) where
+    count : taken ≡ length ps
+    count = holds .lists .count ∙ length-map ps (map (A .number))
+
+    full-is : (leb 64 taken || ltb 512 (length (gather (names ns used) (fronts (map (A .number) p))))) ≡ full A ps p
+    full-is =
+        ap (λ (n : ℕ). leb 64 n || ltb 512 (length (gather (names ns used) (fronts (map (A .number) p))))) count
+        ∙ ap (λ (ws : List Word). leb 64 (length ps) || ltb 512 (length ws)) (ap (λ (l : List Word). gather l (fronts (map (A .number) p))) (holds .lists .names) ∙ sym (states-push (coded A ps) (map (A .number) p)) ∙ ap states (sym (coded-push ps p)))
+
+    module _ (roomy : Roomy A (length ns) (length words)) (some : 1 ≤ length p) (short : length p ≤ 12) where
+      rest : cause A (length ns) (length words) ps p ≡ cond (full A ps p) (Some (full-list (length ps))) None
+      rest =
+          cond-false (ltb (length ns) 512 || ltb (length words) (512 * A .size)) _ _ (or-from (ltb (length ns) 512) (ltb (length words) (512 * A .size)) (le-ltb (length ns) 512 (roomy .0)) (le-ltb (length words) (512 * A .size) (roomy .1)))
+          ∙ cond-false (eqb (length p) 0 || ltb 12 (length p)) _ _ (or-from (eqb (length p) 0) (ltb 12 (length p)) (ne-eqb (length p) 0 (λ e. omega arith)) (le-ltb 12 (length p) short))
+
+      pub cause-full : (leb 64 taken || ltb 512 (length (gather (names ns used) (fronts (map (A .number) p))))) ≡ true → Some (full-list taken) ≡ cause A (length ns) (length words) ps p
+      cause-full f = ap (λ (n : ℕ). Some (full-list n)) count ∙ sym (rest ∙ cond-true (full A ps p) _ _ (sym full-is ∙ f))
+
+      pub cause-none : (leb 64 taken || ltb 512 (length (gather (names ns used) (fronts (map (A .number) p))))) ≡ false → None ≡ cause A (length ns) (length words) ps p
+      cause-none f = sym (rest ∙ cond-false (full A ps p) _ _ (sym full-is ∙ f))
+
+      pub holds-more : (ns′ : List Record) (words′ : List ℕ) (used′ taken′ longest′ : ℕ) → length ns′ ≡ length ns → words′ ≡ words → Lists ns′ used′ taken′ longest′ (coded A ps ++ (map (A .number) p ∷ [])) → Holds A ns′ words′ used′ taken′ longest′ (ps ++ (p ∷ []))
+      holds-more ns′ words′ used′ taken′ longest′ n w l = record {
+        lists = subst (Lists ns′ used′ taken′ longest′) (sym (coded-push ps p)) l;
+        wide = λ h. (omega (arith, roomy .0), omega (arith, roomy .1, ap length w));
+      }

@@ -1,0 +1,6 @@
+mod Spelling
+mod Entering
+mod Bitwise
+mod Starting
+mod Marking
+mod Adding

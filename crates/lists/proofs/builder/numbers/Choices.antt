@@ -1,0 +1,8 @@
+use mathlib.Core.Path.{_≡_}
+use mathlib.Core.List.{map}
+use lib.ListN.{length, take}
+use Rattle.lists.proofs.builder.numbers.Given as given
+
+-- the numbers so far are written
+abbrev pub Inv-loop-i : given.InvT-loop-i
+Inv-loop-i g l = (length (l .word) ≡ 12) × (take (l .i) (l .word) ≡ map (g .L·Letter .alphabet .number) (take (l .i) (l .pattern)))

@@ -1,0 +1,137 @@
+// The list while it takes patterns.
+ghost use mathlib.Core.Path.{_≡_};
+ghost use mathlib.Core.Bool.{_||_};
+ghost use mathlib.Core.List.{List, [], _∷_, _++_, map};
+ghost use Prim.Native.Nat.{ℕ, _+_, _-_, _*_, _<_, _≤_};
+ghost use lib.Dec.{leb, ltb};
+ghost use lib.ListN.{length, getD, take};
+ghost use denote.Ref.{now as at};
+ghost use Rattle.std.specs.Results.{Cases};
+ghost use Rattle.std.specs.Orderings.{Decides};
+ghost use Rattle.listlaw.specs.Patterns.{Word, gather, fronts};
+ghost use Rattle.listlaw.proofs.Gathering.{Places};
+ghost use Rattle.lists.specs.Names.{names, Below, Lengths, Under};
+ghost use Rattle.lists.specs.Lists.{columns, Lists, Held};
+ghost use Rattle.lists.specs.Taking.{Roomy, Holds, cause, refused, taking};
+use crate::record::Record;
+use crate::trie::enter;
+use crate::trie::grown;
+use crate::trie::mark;
+use faults::Fault;
+use letters::Letter;
+use std::marker::PhantomData;
+
+// The records that a list needs, one for each state that it can have; it needs as many words for each letter.
+pub const STATES: usize = 512;
+// The patterns that a list can take, and the letters that one can have.
+pub const PATTERNS: usize = 64;
+pub const LETTERS: usize = 12;
+
+// A list that takes patterns over the letters of `L`. Finished, it is an automaton, and takes no more.
+#[derive(Drop)]
+pub struct Builder<'a, L> {
+    records: &'a mut [Record],
+    words: &'a mut [u16],
+    // states so far, patterns so far, and the length of the longest
+    used: usize,
+    taken: usize,
+    longest: usize,
+    kind: PhantomData<L>,
+    ghost some: { 1 ≤ used },
+    ghost few: { used ≤ 512 },
+    ghost below: { Below (at records) used },
+    ghost deep: { Lengths (at records) used },
+    ghost apart: { Places (names (at records) used) },
+    ghost fits: { (0 < taken → 512 ≤ length (at records)) },
+    ghost small: { Under (columns (at words)) (at records) used },
+    ghost held: { Held (at records) used taken longest },
+}
+
+// The numbers of the letters of `pattern`, at the front of an array.
+fn numbers<L: Letter>(pattern: &[L]) -> [u8; 12]
+    requires { ⌜ length (now pattern) ≤ 12 ⌝ }
+    ensures { λ r. ⌜ take (length (now (pattern .entry))) r ≡ map (L·Letter .alphabet .number) (now (pattern .entry)) ⌝ }
+{
+    let mut word = [0; 12];
+    for (i, letter) in pattern.iter().enumerate() {
+        word[i] = letter.number();
+    }
+    word
+}
+
+impl<'a, L: Letter> Builder<'a, L> {
+    // An empty list on two tables, which may be too short: then it takes no pattern.
+    pub fn start(records: &'a mut [Record], words: &'a mut [u16]) -> Builder<'a, L>
+        ensures { λ r. ⌜ Holds (L·Letter .alphabet) (at (r .records)) (at (r .words)) (r .used) (r .taken) (r .longest) [] ⌝ }
+    {
+        if records.len() >= STATES {
+            records[0] = Record::BLANK;
+        }
+        Builder { records, words, used: 1, taken: 0, longest: 0, kind: PhantomData }
+    }
+
+    // Whether both tables are long enough.
+    fn roomy(&self) -> bool
+        ensures { λ r. ⌜ Decides r (Roomy (L·Letter .alphabet) (length (now (now (self .entry) .records))) (length (now (now (self .entry) .words)))) ⌝ }
+    {
+        self.records.len() >= STATES && self.words.len() >= STATES * L::count() as usize
+    }
+
+    // Whether the pattern `word` would be one too many, or bring a state too many.
+    fn full(&self, word: &[u8]) -> bool
+        requires room { ⌜ 512 ≤ length (now (now self .records)) ⌝ }
+        requires word { ⌜ 1 ≤ length (now word) ⌝ ∗ ⌜ length (now word) ≤ 12 ⌝ }
+        ensures { λ r. ⌜ r ≡ (leb 64 (now (self .entry) .taken) || ltb 512 (length (gather (names (now (now (self .entry) .records)) (now (self .entry) .used)) (fronts (now (word .entry)))))) ⌝ }
+    {
+        self.taken >= PATTERNS || grown(self.records, self.used, word) > STATES
+    }
+
+    // Takes the pattern `word`, for which there is room.
+    fn take(&mut self, word: &[u8])
+        requires room { ⌜ 512 ≤ length (now (now self .records)) ⌝ ∗ ⌜ length (gather (names (now (now self .records)) (now self .used)) (fronts (now word))) ≤ 512 ⌝ }
+        requires word { ⌜ 1 ≤ length (now word) ⌝ ∗ ⌜ length (now word) ≤ 12 ⌝ }
+        requires letters { ⌜ ((i : ℕ) → i < length (now word) → getD (now word) i 0 < columns (now (now self .words))) ⌝ }
+        requires few { ⌜ now self .taken < 64 ⌝ }
+        ensures words { λ _. ⌜ now (now (self .exit) .words) ≡ now (now (self .entry) .words) ⌝ }
+        ensures length { λ _. ⌜ length (now (now (self .exit) .records)) ≡ length (now (now (self .entry) .records)) ⌝ }
+        ensures lists { λ _. ⌜ ((ps : List Word) → Lists (now (now (self .entry) .records)) (now (self .entry) .used) (now (self .entry) .taken) (now (self .entry) .longest) ps
+            → Lists (now (now (self .exit) .records)) (now (self .exit) .used) (now (self .exit) .taken) (now (self .exit) .longest) (ps ++ (now (word .entry) ∷ []))) ⌝ }
+    {
+        let n = word.len();
+        let Builder { records, words: _, used, taken, longest, kind: _ } = self;
+        let (under, count) = enter(records, *used, word);
+        mark(records, under, word[n - 1]);
+        *used = count;
+        *taken += 1;
+        *longest = n.max(*longest);
+    }
+
+    // Takes a pattern. A refused one leaves the list and both tables as they were.
+    pub fn add(&mut self, pattern: &[L]) -> Result<(), Fault>
+        ensures cause { λ r. ⌜ ((ps : List (List L)) → Holds (L·Letter .alphabet) (now (now (self .entry) .records)) (now (now (self .entry) .words)) (now (self .entry) .used) (now (self .entry) .taken) (now (self .entry) .longest) ps
+            → refused r ≡ cause (L·Letter .alphabet) (length (now (now (self .entry) .records))) (length (now (now (self .entry) .words))) ps (now (pattern .entry))) ⌝ }
+        ensures holds { λ r. ⌜ ((ps : List (List L)) → Holds (L·Letter .alphabet) (now (now (self .entry) .records)) (now (now (self .entry) .words)) (now (self .entry) .used) (now (self .entry) .taken) (now (self .entry) .longest) ps
+            → Holds (L·Letter .alphabet) (now (now (self .exit) .records)) (now (now (self .exit) .words)) (now (self .exit) .used) (now (self .exit) .taken) (now (self .exit) .longest) (taking r ps (now (pattern .entry)))) ⌝ }
+        ensures same { λ r. ⌜ Cases r (λ _. Unit {0}) (λ _.
+            (now (now (self .exit) .records) ≡ now (now (self .entry) .records))
+            × (now (now (self .exit) .words) ≡ now (now (self .entry) .words))
+            × (now (self .exit) .used ≡ now (self .entry) .used)
+            × (now (self .exit) .taken ≡ now (self .entry) .taken)
+            × (now (self .exit) .longest ≡ now (self .entry) .longest)) ⌝ }
+    {
+        if !self.roomy() {
+            return Err(Fault::short_tables());
+        }
+        let _kind: PhantomData<L> = PhantomData;
+        let n = pattern.len();
+        if n == 0 || n > LETTERS {
+            return Err(Fault::bad_length(n));
+        }
+        let word = numbers(pattern);
+        if self.full(&word[0..n]) {
+            return Err(Fault::full_list(self.taken));
+        }
+        self.take(&word[0..n]);
+        Ok(())
+    }
+}

@@ -1,0 +1,7 @@
+// A list of forbidden patterns over two lent tables: it takes patterns one by one, and is finished into an automaton.
+pub mod builder;
+pub mod record;
+pub mod trie;
+
+pub use builder::Builder;
+pub use record::Record;
