@@ -1,0 +1,5 @@
+pub mod Rivals
+pub mod Rows
+pub mod Calls
+pub mod Step
+pub mod Law

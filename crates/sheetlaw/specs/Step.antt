@@ -1,0 +1,162 @@
+-- What one call of a sheet answers and leaves, and what a list of calls leaves. Everything here can be computed.
+--
+--   Contents K             what a sheet holds between two calls
+--   opening m k            what opening a sheet on the automaton m with windows of k letters answers
+--   window k s x           the running window with the letter x
+--   Deed K                 what a letter does that is not refused
+--   decide .. s x          what the letter x will do, or why it is refused: the order of the causes
+--   carry k s x d          the sheet after a letter that was decided so
+--   answer k d             what such a letter answers
+--   write n r t            the table t with the letters r from the place n on
+--   cleared n work         the work table after a letter that needs n of its words
+--   after, table, Exact    the sheet and the text table after a list of calls, and that each call answered and left in
+--                          its work table what is given here for the opening and the calls up to it
+--
+-- The definitions take the automaton m, the window length k, the row for two windows, and the length `room` of the text
+-- table, of whose letters nothing is read.
+use mathlib.Core.Path.{_≡_}
+use mathlib.Core.Bool.{Bool, cond, _||_}
+use mathlib.Core.List.{List, [], _∷_, _++_}
+use Prim.Native.Nat.{ℕ, _+_, _-_, _*_}
+use lib.Dec.{ltb, leb}
+use lib.ListN.{length, take, drop, replicate}
+use Rattle.std.specs.declared.option.Option.{Option}
+use Rattle.std.specs.declared.option.Option.the-variants.{Some, None}
+use Rattle.std.specs.declared.result.Result.{Result}
+use Rattle.std.specs.declared.result.Result.the-variants.{Ok, Err}
+use Rattle.faults.specs.declared.Fault.{Fault}
+use Rattle.faults.specs.Causes.{bad-window, long-memory, short-work, full-sheet, no-string, short-text}
+use Rattle.models.specs.Automaton.{Model, last}
+use Rattle.sheetlaw.specs.Calls.{Turn, letter, gap, passes}
+use Rattle.sheetlaw.specs.declared.Answer.{Answer}
+use Rattle.sheetlaw.specs.declared.Answer.the-variants.{Pending, Skipped, Kept}
+use Rattle.sheetlaw.specs.declared.Counts.{Counts}
+
+pub record Contents (K : Type 0) : Type 0 where
+  -- the running window: the last k letters taken since the opening or the last gap, or all if fewer
+  pub running : List K
+  -- the last kept window
+  pub latest : Option (List K)
+  -- how many letters and gaps are taken
+  pub taken : ℕ
+  pub counts : Counts
+
+pub data Deed (K : Type 0) : Type 0 where
+  -- fewer than k letters run then
+  wait : Deed K
+  -- the window does not pass alone
+  skip : Deed K
+  -- the window is kept, and the row appended for it
+  keep : List K → List K → Deed K
+
+-- refused with f if the test holds, else r
+abbrev pub unless : {A : Type 0} → Bool → Fault → Result A Fault → Result A Fault
+unless test f r = cond test (Err f) r
+
+-- refused with f if there is nothing
+abbrev pub given : {A B : Type 0} → Option A → Fault → (A → Result B Fault) → Result B Fault
+given None f r = Err f
+given (Some a) f r = r a
+
+abbrev pub zeroes : Counts
+zeroes = record { letters = 0; kept = 0; skipped = 0; text = 0; filled = 0 }
+
+abbrev pub opened : {K : Type 0} → Contents K
+opened = record { running = []; latest = None; taken = 0; counts = zeroes }
+
+abbrev pub opening : {K : Type 0} → Model K → ℕ → Result (Contents K) Fault
+opening m k =
+    unless (ltb k 2 || ltb 12 k) (bad-window k)
+    (unless (ltb k (m .memory)) (long-memory (m .memory))
+    (Ok opened))
+
+abbrev pub window : {K : Type 0} → ℕ → Contents K → K → List K
+window k s x = last k (s .running ++ x ∷ [])
+
+abbrev pub answer : {K : Type 0} → ℕ → Deed K → Answer
+answer k wait = Pending
+answer k skip = Skipped
+answer k (keep w r) = Kept (length r) (length r - k)
+
+abbrev pub counted : {K : Type 0} → ℕ → Counts → Deed K → Counts
+counted k c wait = record { letters = c .letters + 1; kept = c .kept; skipped = c .skipped; text = c .text; filled = c .filled }
+counted k c skip = record { letters = c .letters + 1; kept = c .kept; skipped = c .skipped + 1; text = c .text; filled = c .filled }
+counted k c (keep w r) = record { letters = c .letters + 1; kept = c .kept + 1; skipped = c .skipped; text = c .text + length r; filled = c .filled + (length r - k) }
+
+abbrev pub newest : {K : Type 0} → Option (List K) → Deed K → Option (List K)
+newest u wait = u
+newest u skip = u
+newest u (keep w r) = Some w
+
+abbrev pub carry : {K : Type 0} → ℕ → Contents K → K → Deed K → Contents K
+carry k s x d = record { running = window k s x; latest = newest (s .latest) d; taken = s .taken + 1; counts = counted k (s .counts) d }
+
+-- a gap empties the running window
+abbrev pub paused : {K : Type 0} → Contents K → Contents K
+paused s = record { running = []; latest = s .latest; taken = s .taken + 1; counts = s .counts }
+
+abbrev pub write : {K : Type 0} → ℕ → List K → List K → List K
+write n r t = take n t ++ (r ++ drop (n + length r) t)
+
+abbrev pub appends : {K : Type 0} → Contents K → List K → Deed K → List K
+appends s t wait = t
+appends s t skip = t
+appends s t (keep w r) = write (s .counts .text) r t
+
+-- the first n words are zero, and the others as they were; a table that is too short is as it was
+abbrev pub cleared : ℕ → List ℕ → List ℕ
+cleared n work = cond (ltb (length work) n) work (replicate n 0 ++ drop n work)
+
+-- what is carried out if it is not refused
+abbrev pub unrefused : {A B : Type 0} → Result A Fault → B → (A → B) → B
+unrefused (Ok a) b f = f a
+unrefused (Err f) b g = b
+
+abbrev pub said : {K : Type 0} → ℕ → Result (Deed K) Fault → Result Answer Fault
+said k (Ok d) = Ok (answer k d)
+said k (Err f) = Err f
+
+abbrev pub decide-gap : {K : Type 0} → Contents K → Result (Unit {0}) Fault
+decide-gap s = unless (leb 50000 (s .taken)) full-sheet (Ok tt)
+
+module _ {K : Type 0} (m : Model K) (k : ℕ) (row : List K → List K → Option (List K)) where
+  -- the first kept window becomes the text, so it is its own row
+  abbrev pub row-to : Option (List K) → List K → Option (List K)
+  row-to None w = Some w
+  row-to (Some u) w = row u w
+
+  abbrev pub needs : ℕ
+  needs = 4 * m .count
+
+  -- with a work table of `work` words and a text table of `room` letters
+  abbrev pub decide : (work room : ℕ) → Contents K → K → Result (Deed K) Fault
+  decide work room s x =
+      let w = window k s x in
+      unless (ltb work needs) (short-work needs)
+      (unless (leb 50000 (s .taken)) full-sheet
+      (cond (ltb (length w) k) (Ok wait)
+      (cond (passes m w) (
+        given (row-to (s .latest) w) (no-string (s .taken)) (λ r.
+        unless (ltb room (s .counts .text + length r)) (short-text (s .counts .text + length r))
+        (Ok (keep w r))))
+      (Ok skip))))
+
+  abbrev pub after : ℕ → List (Turn K) → Contents K
+  after room [] = opened
+  after room (letter x work _ _ ∷ h) =
+      let s = after room h in unrefused (decide (length work) room s x) s (carry k s x)
+  after room (gap _ ∷ h) =
+      let s = after room h in unrefused (decide-gap s) s (λ _. paused s)
+
+  abbrev pub table : List K → List (Turn K) → List K
+  table t [] = t
+  table t (letter x work _ _ ∷ h) =
+      let s = after (length t) h in unrefused (decide (length work) (length t) s x) (table t h) (appends s (table t h))
+  table t (gap _ ∷ h) = table t h
+
+  -- the table first held t
+  abbrev pub Exact : List K → List (Turn K) → Type 0
+  Exact t [] = Unit {0}
+  Exact t (letter x work r left ∷ h) =
+      Exact t h × (r ≡ said k (decide (length work) (length t) (after (length t) h) x)) × (left ≡ cleared needs work)
+  Exact t (gap r ∷ h) = Exact t h × (r ≡ decide-gap (after (length t) h))
