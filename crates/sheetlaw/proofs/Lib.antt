@@ -2,3 +2,6 @@ pub mod Passing
 pub mod Places
 pub mod Texts
 pub mod Windows
+pub mod Decisions
+pub mod Sheets
+pub mod Laws

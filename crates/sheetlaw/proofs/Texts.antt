@@ -113,16 +113,16 @@ module _ {K : Type 0} (m : Model K) (laws : Lawful m) (k : ℕ) (some : 2 ≤ k)
         leads r [] e = rw e (inr (refl, before-itself number w))
         leads r (x ∷ a) e = inl (omega (arith, ap length e, length-append a w))
 
-    pub row-least : (o : Option (List K)) (ws : List (List K)) (t w r : List K) → Built m k o ws t → length w ≡ k → Pass m w → row-to m k row o w ≡ Some r → Least number (Serves m t w) r
+    pub row-least : (o : Option (List K)) (ws : List (List K)) (t w r : List K) → Built m k o ws t → length w ≡ k → Pass m w → row-to row o w ≡ Some r → Least number (Serves m t w) r
     row-least None ws t w r (_, f) l pw e = let same : w ≡ r = cc in rw (f, ← same) (first-row w l pw)
     row-least (Some u) ws t w r b l pw e = rows .serves t u w (meet ws t u w b l pw) r e
 
-    pub row-none : (o : Option (List K)) (ws : List (List K)) (t w : List K) → Built m k o ws t → length w ≡ k → Pass m w → row-to m k row o w ≡ None → (r : List K) → Serves m t w r → ⊥
+    pub row-none : (o : Option (List K)) (ws : List (List K)) (t w : List K) → Built m k o ws t → length w ≡ k → Pass m w → row-to row o w ≡ None → (r : List K) → Serves m t w r → ⊥
     row-none None ws t w b l pw e r f = absurd (let z : _≡_ {A = ℕ} 0 1 = cc in omega arith)
     row-none (Some u) ws t w b l pw e r f = rows .none t u w (meet ws t u w b l pw) e r f
 
     -- with no row there is no string that has the windows and then this one
-    pub no-rival : (o : Option (List K)) (ws : List (List K)) (t w : List K) → Built m k o ws t → length w ≡ k → Pass m w → row-to m k row o w ≡ None
+    pub no-rival : (o : Option (List K)) (ws : List (List K)) (t w : List K) → Built m k o ws t → length w ≡ k → Pass m w → row-to row o w ≡ None
         → (s : List K) → Rival m (ws ++ w ∷ []) s → ⊥
     no-rival o ws t w b l pw e s (ps, i) =
         let g = rises-last s 0 ws w i in
@@ -130,7 +130,7 @@ module _ {K : Type 0} (m : Model K) (laws : Lawful m) (k : ℕ) (some : 2 ≤ k)
         row-none o ws t w b l pw e (f .0) (f .1)
 
     -- and with one the text with it is a shortest
-    pub row-shortest : (o : Option (List K)) (ws : List (List K)) (t w r : List K) → Built m k o ws t → length w ≡ k → Pass m w → row-to m k row o w ≡ Some r
+    pub row-shortest : (o : Option (List K)) (ws : List (List K)) (t w r : List K) → Built m k o ws t → length w ≡ k → Pass m w → row-to row o w ≡ Some r
         → Rival m (ws ++ w ∷ []) (t ++ r) × ((s : List K) → Rival m (ws ++ w ∷ []) s → length (t ++ r) ≤ length s)
     row-shortest o ws t w r b l pw e =
         shortest (Some w) (ws ++ w ∷ []) (t ++ r) (built-more number o ws t w r b l pw (row-least o ws t w r b l pw e))

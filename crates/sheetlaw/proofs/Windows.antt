@@ -69,10 +69,10 @@ module _ {K : Type 0} where
       let f = take-letters-few k (Gap ∷ es) in
       rw (whole-none k (take k (Gap ∷ es)) (omega arith)) (windows-none k es l)
 
-  ending-none : (k : ℕ) (xs : List K) → length xs < k → ending k xs ≡ []
+  pub ending-none : (k : ℕ) (xs : List K) → length xs < k → ending k xs ≡ []
   ending-none k xs l = let e : leb k (length xs) ≡ false = lt-leb k (length xs) l in rw e
 
-  ending-one : (k : ℕ) (xs : List K) → k ≤ length xs → ending k xs ≡ last k xs ∷ []
+  pub ending-one : (k : ℕ) (xs : List K) → k ≤ length xs → ending k xs ≡ last k xs ∷ []
   ending-one k xs l = let e : leb k (length xs) ≡ true = le-leb k (length xs) l in rw e
 
   -- a letter further back does not count where there are enough

@@ -11,6 +11,7 @@
 --   windows k es     every k neighbouring letters, no gap among them, in order
 --   kept m k es      those of the windows that pass alone
 --   skipped m k es   those that do not
+--   tally m k h      the five counts of the calls
 use mathlib.Core.Bool.{Bool, cond, not}
 use mathlib.Core.List.{List, [], _∷_, _++_}
 use Prim.Native.Nat.{ℕ, _+_}
@@ -26,6 +27,7 @@ use Rattle.sheetlaw.specs.declared.Event.{Event}
 use Rattle.sheetlaw.specs.declared.Event.the-variants.{Letter, Gap}
 use Rattle.sheetlaw.specs.declared.Answer.{Answer}
 use Rattle.sheetlaw.specs.declared.Answer.the-variants.{Pending, Skipped, Kept}
+use Rattle.sheetlaw.specs.declared.Counts.{Counts}
 
 pub data Turn (K : Type 0) : Type 0 where
   letter : K → List ℕ → Result Answer Fault → List ℕ → Turn K
@@ -88,3 +90,13 @@ module _ {K : Type 0} where
 
   abbrev pub skipped : Model K → ℕ → List (Event K) → List (List K)
   skipped m k es = kept-by (λ w. not (passes m w)) (windows k es)
+
+  -- the letters taken, the windows kept and skipped, the letters appended and filled in
+  abbrev pub tally : Model K → ℕ → List (Turn K) → Counts
+  tally m k h = record {
+    letters = length (letters (taken h));
+    kept = length (kept m k (taken h));
+    skipped = length (skipped m k (taken h));
+    text = appended h;
+    filled = filled h;
+  }

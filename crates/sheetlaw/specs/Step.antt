@@ -9,8 +9,11 @@
 --   answer k d             what such a letter answers
 --   write n r t            the table t with the letters r from the place n on
 --   cleared n work         the work table after a letter that needs n of its words
---   after, table, Exact    the sheet and the text table after a list of calls, and that each call answered and left in
---                          its work table what is given here for the opening and the calls up to it
+--   answers, leaves, writes
+--                          what the letter answers, and what it leaves in the sheet and in the text table
+--   after .. t h           the sheet and the text table, which first held t, after the calls h
+--   Exact .. t h           each of the calls h answered, and left in its work table, what is given here for the opening
+--                          and the calls up to it
 --
 -- The definitions take the automaton m, the window length k, the row for two windows, and the length `room` of the text
 -- table, of whose letters nothing is read.
@@ -119,44 +122,57 @@ said k (Err f) = Err f
 abbrev pub decide-gap : {K : Type 0} → Contents K → Result (Unit {0}) Fault
 decide-gap s = unless (leb 50000 (s .taken)) full-sheet (Ok tt)
 
+abbrev pub leaves-gap : {K : Type 0} → Contents K → Contents K
+leaves-gap s = unrefused (decide-gap s) s (λ _. paused s)
+
+-- close returns the five counts
+abbrev pub close : {K : Type 0} → Contents K → Counts
+close s = s .counts
+
+-- the words that a letter needs of its work table: four for each state
+abbrev pub needs : {K : Type 0} → Model K → ℕ
+needs m = 4 * m .count
+
+-- the row for a window after the last kept one; the first kept window becomes the text, so it is its own row
+abbrev pub row-to : {K : Type 0} → (List K → List K → Option (List K)) → Option (List K) → List K → Option (List K)
+row-to row None w = Some w
+row-to row (Some u) w = row u w
+
 module _ {K : Type 0} (m : Model K) (k : ℕ) (row : List K → List K → Option (List K)) where
-  -- the first kept window becomes the text, so it is its own row
-  abbrev pub row-to : Option (List K) → List K → Option (List K)
-  row-to None w = Some w
-  row-to (Some u) w = row u w
-
-  abbrev pub needs : ℕ
-  needs = 4 * m .count
-
   -- with a work table of `work` words and a text table of `room` letters
   abbrev pub decide : (work room : ℕ) → Contents K → K → Result (Deed K) Fault
   decide work room s x =
       let w = window k s x in
-      unless (ltb work needs) (short-work needs)
+      unless (ltb work (needs m)) (short-work (needs m))
       (unless (leb 50000 (s .taken)) full-sheet
       (cond (ltb (length w) k) (Ok wait)
       (cond (passes m w) (
-        given (row-to (s .latest) w) (no-string (s .taken)) (λ r.
+        given (row-to row (s .latest) w) (no-string (s .taken)) (λ r.
         unless (ltb room (s .counts .text + length r)) (short-text (s .counts .text + length r))
         (Ok (keep w r))))
       (Ok skip))))
 
-  abbrev pub after : ℕ → List (Turn K) → Contents K
-  after room [] = opened
-  after room (letter x work _ _ ∷ h) =
-      let s = after room h in unrefused (decide (length work) room s x) s (carry k s x)
-  after room (gap _ ∷ h) =
-      let s = after room h in unrefused (decide-gap s) s (λ _. paused s)
+  -- what the letter answers, and what it leaves in the sheet and in the text table t
+  abbrev pub answers : (work room : ℕ) → Contents K → K → Result Answer Fault
+  answers work room s x = said k (decide work room s x)
 
-  abbrev pub table : List K → List (Turn K) → List K
-  table t [] = t
-  table t (letter x work _ _ ∷ h) =
-      let s = after (length t) h in unrefused (decide (length work) (length t) s x) (table t h) (appends s (table t h))
-  table t (gap _ ∷ h) = table t h
+  abbrev pub leaves : (work room : ℕ) → Contents K → K → Contents K
+  leaves work room s x = unrefused (decide work room s x) s (carry k s x)
 
-  -- the table first held t
+  abbrev pub writes : (work : ℕ) → Contents K → K → List K → List K
+  writes work s x t = unrefused (decide work (length t) s x) t (appends s t)
+
+  -- the sheet and the text table, which first held t
+  abbrev pub after : List K → List (Turn K) → Contents K × List K
+  after t [] = (opened, t)
+  after t (letter x work _ _ ∷ h) =
+      let u = after t h in (leaves (length work) (length (u .1)) (u .0) x, writes (length work) (u .0) x (u .1))
+  after t (gap _ ∷ h) =
+      let u = after t h in (leaves-gap (u .0), u .1)
+
   abbrev pub Exact : List K → List (Turn K) → Type 0
   Exact t [] = Unit {0}
   Exact t (letter x work r left ∷ h) =
-      Exact t h × (r ≡ said k (decide (length work) (length t) (after (length t) h) x)) × (left ≡ cleared needs work)
-  Exact t (gap r ∷ h) = Exact t h × (r ≡ decide-gap (after (length t) h))
+      let u = after t h in Exact t h × (r ≡ answers (length work) (length (u .1)) (u .0) x) × (left ≡ cleared (needs m) work)
+  Exact t (gap r ∷ h) =
+      let u = after t h in Exact t h × (r ≡ decide-gap (u .0))
