@@ -43,19 +43,19 @@ opening-fits {K} m k =
     let p = or-parts (ltb k 2) (ltb 12 k) b in
     record { some = ltb-false k 2 (p .0); few = ltb-false 12 k (p .1); recalls = ltb-false k (m .memory) c }))
 
-module _ {K : Type 0} (m : Model K) (number : K → ℕ) (k : ℕ) (row : List K → List K → Option (List K)) (laws : Lawful m) (fits : Fits m k) (rows : Rows m number k row) where
+module _ {K : Type 0} (m : Model K) (number : K → ℕ) (k : ℕ) (row : List K → List K → Option (List K)) (laws : Lawful m) (fits : Fits m k) (rows : Rows m number k row) (t0 : List K) where
   one : 1 ≤ k
   one = omega (arith, fits .some)
 
-  module _ (es : List (Event K)) (n f : ℕ) (s : Contents K) (t : List K) (holds : Holds m k es n f s t) where
+  module _ (es : List (Event K)) (n f : ℕ) (s : Contents K) (t : List K) (holds : Holds m k t0 es n f s t) where
     texts : s .counts .text ≡ n
     texts = ap (λ c. c .text) (holds .counts)
 
-    holds-paused : (o : Result (Unit {0}) Fault) → let c : Turn K = gap o in Holds m k (es ++ adds c .events) (n + adds c .appended) (f + adds c .filled) (unrefused o s (λ _. paused s)) t
+    holds-paused : (o : Result (Unit {0}) Fault) → let c : Turn K = gap o in Holds m k t0 (es ++ adds c .events) (n + adds c .appended) (f + adds c .filled) (unrefused o s (λ _. paused s)) t
     holds-paused (Ok u) =
         let a : n + 0 ≡ n = omega arith in
         let b : f + 0 ≡ f = omega arith in
-        rw (a, b) (holds-gap m k one es n f s t holds)
+        rw (a, b) (holds-gap m k t0 one es n f s t holds)
     holds-paused (Err e) =
         let a : n + 0 ≡ n = omega arith in
         let b : f + 0 ≡ f = omega arith in
@@ -65,26 +65,26 @@ module _ {K : Type 0} (m : Model K) (number : K → ℕ) (k : ℕ) (row : List K
     module _ (x : K) (work : List ℕ) where
       -- k letters, where there are so many
       exactly : k ≤ length (window k s x) → length (window k s x) ≡ k
-      exactly l = let z = window-size m k one es n f s t holds x in omega arith
+      exactly l = let z = window-size m k t0 one es n f s t holds x in omega arith
 
       holds-decided : (o : Result (Deed K) Fault) (left : List ℕ) → Decided m k row (length work) (length t) s x o
-          → Holds m k (es ++ adds (letter x work (said k o) left) .events) (n + adds (letter x work (said k o) left) .appended) (f + adds (letter x work (said k o) left) .filled)
+          → Holds m k t0 (es ++ adds (letter x work (said k o) left) .events) (n + adds (letter x work (said k o) left) .appended) (f + adds (letter x work (said k o) left) .filled)
               (unrefused o s (carry k s x)) (unrefused o t (appends s t))
       holds-decided (Ok wait) left d =
           let a : n + 0 ≡ n = omega arith in
           let b : f + 0 ≡ f = omega arith in
-          rw (a, b) (holds-wait m k one es n f s t holds x (d .1))
+          rw (a, b) (holds-wait m k t0 one es n f s t holds x (d .1))
       holds-decided (Ok skip) left d =
           let a : n + 0 ≡ n = omega arith in
           let b : f + 0 ≡ f = omega arith in
-          rw (a, b) (holds-skip m k one es n f s t holds x (d .1) (d .2))
+          rw (a, b) (holds-skip m k t0 one es n f s t holds x (d .1) (d .2))
       holds-decided (Ok (keep w r)) left (free, whole, here, same, room) =
           let l = exactly (whole .0) in
           let least = row-least m laws k (fits .some) (fits .recalls) number row rows (s .latest) (kept m k es) (take n t) (window k s x) r (holds .built) l (whole .1) here in
           let more = built-more m laws k (fits .some) (fits .recalls) number (s .latest) (kept m k es) (take n t) (window k s x) r (holds .built) l (whole .1) least in
           let inside : n + length r ≤ length t = subst (λ i. i + length r ≤ length t) texts room in
-          let kept-now = holds-keep m k one es n f s t holds x r (whole .0) (whole .1) more inside in
-          rw same (subst (λ i. Holds m k (es ++ Letter x ∷ []) (n + length r) (f + (length r - k)) (carry k s x (keep (window k s x) r)) (write i r t)) (sym texts) kept-now)
+          let kept-now = holds-keep m k t0 one es n f s t holds x r (whole .0) (whole .1) more inside in
+          rw same (subst (λ i. Holds m k t0 (es ++ Letter x ∷ []) (n + length r) (f + (length r - k)) (carry k s x (keep (window k s x) r)) (write i r t)) (sym texts) kept-now)
       holds-decided (Err e) left d =
           let a : n + 0 ≡ n = omega arith in
           let b : f + 0 ≡ f = omega arith in
@@ -136,83 +136,84 @@ module _ {K : Type 0} (m : Model K) (number : K → ℕ) (k : ℕ) (row : List K
             ap (λ i. take (n + i) (write (s .counts .text) r t)) p ∙ ap (λ i. take (n + length r) (write i r t)) texts ∙ take-write n r t inside)
       grown (Err q) d a b e = absurd (let z : _≡_ {A = ℕ} 0 1 = cc in omega arith)
 
-  module _ (t0 : List K) where
-    holds-after : (h : List (Turn K)) → Exact m k row t0 h → Holds m k (taken h) (appended h) (filled h) (after m k row t0 h .0) (after m k row t0 h .1)
-    holds-after [] e = record {
-      running = sym (drop-all (0 - k) [] (omega arith));
-      built = (refl, refl);
-      taken = refl;
-      counts = refl;
-      fits = omega arith;
-    }
-    holds-after (letter x work r left ∷ h) (e, a, _) =
+  holds-after : (h : List (Turn K)) → Exact m k row t0 h → Holds m k t0 (taken h) (appended h) (filled h) (after m k row t0 h .0) (after m k row t0 h .1)
+  holds-after [] e = record {
+    running = sym (drop-all (0 - k) [] (omega arith));
+    built = (refl, refl);
+    taken = refl;
+    counts = refl;
+    fits = omega arith;
+    rest = refl;
+  }
+  holds-after (letter x work r left ∷ h) (e, a, _) =
+      let u = after m k row t0 h in
+      let o = decide m k row (length work) (length (u .1)) (u .0) x in
+      let d = holds-decided (taken h) (appended h) (filled h) (u .0) (u .1) (holds-after h e) x work o left (decided m k row (length work) (length (u .1)) (u .0) x) in
+      rw a d
+  holds-after (gap r ∷ h) (e, a) =
+      let u = after m k row t0 h in
+      rw a (holds-paused (taken h) (appended h) (filled h) (u .0) (u .1) (holds-after h e) (decide-gap (u .0)))
+
+  latest : (o : Option (List K)) (ws : List (List K)) (t : List K) → Built m k o ws t → Latest ws o
+  latest None ws t b = b .0
+  latest (Some w) ws t b = (b .0, b .1)
+
+  pub followed : (h : List (Turn K)) → Exact m k row t0 h → Followed m number k row t0 h (after m k row t0 h .0) (after m k row t0 h .1)
+  followed h e =
+      let s = after m k row t0 h .0 in
+      let t = after m k row t0 h .1 in
+      let es = taken h in
+      let n = appended h in
+      let f = filled h in
+      let holds : Holds m k t0 es n f s t = holds-after h e in
+      record {
+        exact = e;
+        sheet = refl;
+        table = refl;
+        running = holds .running;
+        latest = latest (s .latest) (kept m k es) (take n t) (holds .built);
+        count = holds .taken;
+        within = holds .fits;
+        rest = holds .rest;
+        shortest = shortest m laws k (fits .some) (fits .recalls) (s .latest) (kept m k es) (take n t) (holds .built);
+        next = λ x work w i p b g.
+            let same : window k s x ≡ w = window-is m k t0 one es n f s t holds x ∙ sym (i .1) in
+            let l : k ≤ length (window k s x) = (let z = window-size m k t0 one es n f s t holds x in omega (arith, i .0)) in
+            let early : s .taken < 50000 = omega (arith, holds .taken) in
+            subst (λ v. Refusals m (kept m k es) v (length t) (answers m k row (length work) (length t) s x)) same
+              (refusals es n f s t holds x work l (subst (Pass m) (sym same) p) b early (decide m k row (length work) (length t) s x) (decided m k row (length work) (length t) s x));
+        grows = λ x work a b q.
+            subst (λ v. (r : List K) × Least number (Serves m (take n t) v) r × (a ≡ length r) × (b ≡ a - k) × (take (n + a) (writes m k row (length work) s x t) ≡ take n t ++ r))
+              (window-is m k t0 one es n f s t holds x)
+              (grown es n f s t holds x work (decide m k row (length work) (length t) s x) (decided m k row (length work) (length t) s x) a b q);
+        closed = holds .counts;
+      }
+
+  moved : (h : List (Turn K)) (s s′ : Contents K) (t t′ : List K) → s′ ≡ s → t′ ≡ t → Followed m number k row t0 h s t → Followed m number k row t0 h s′ t′
+  moved h s s′ t t′ e q i = subst (λ v. Followed m number k row t0 h v t′) (sym e) (subst (λ v. Followed m number k row t0 h s v) (sym q) i)
+
+  -- at the opening
+  pub followed-opened : Followed m number k row t0 [] opened t0
+  followed-opened = followed [] tt
+
+  module _ (h : List (Turn K)) (s : Contents K) (t : List K) (past : Followed m number k row t0 h s t) where
+    -- one letter more
+    pub followed-letter : (x : K) (work left : List ℕ) (r : Result Answer Fault) (s′ : Contents K) (t′ : List K)
+        → r ≡ answers m k row (length work) (length t) s x → left ≡ cleared (needs m) work → s′ ≡ leaves m k row (length work) (length t) s x → t′ ≡ writes m k row (length work) s x t
+        → Followed m number k row t0 (letter x work r left ∷ h) s′ t′
+    followed-letter x work left r s′ t′ a c e q =
         let u = after m k row t0 h in
-        let o = decide m k row (length work) (length (u .1)) (u .0) x in
-        let d = holds-decided (taken h) (appended h) (filled h) (u .0) (u .1) (holds-after h e) x work o left (decided m k row (length work) (length (u .1)) (u .0) x) in
-        rw a d
-    holds-after (gap r ∷ h) (e, a) =
-        let u = after m k row t0 h in
-        rw a (holds-paused (taken h) (appended h) (filled h) (u .0) (u .1) (holds-after h e) (decide-gap (u .0)))
+        let at : (F : Contents K → List K → Type 0) → F s t → F (u .0) (u .1) = λ F y. subst (λ v. F v (u .1)) (past .sheet) (subst (F s) (past .table) y) in
+        moved (letter x work r left ∷ h) _ s′ _ t′
+          (at (λ v w. s′ ≡ leaves m k row (length work) (length w) v x) e)
+          (at (λ v w. t′ ≡ writes m k row (length work) v x w) q)
+          (followed (letter x work r left ∷ h) (past .exact, at (λ v w. r ≡ answers m k row (length work) (length w) v x) a, c))
 
-    latest : (o : Option (List K)) (ws : List (List K)) (t : List K) → Built m k o ws t → Latest ws o
-    latest None ws t b = b .0
-    latest (Some w) ws t b = (b .0, b .1)
-
-    pub followed : (h : List (Turn K)) → Exact m k row t0 h → Followed m number k row t0 h (after m k row t0 h .0) (after m k row t0 h .1)
-    followed h e =
-        let s = after m k row t0 h .0 in
-        let t = after m k row t0 h .1 in
-        let es = taken h in
-        let n = appended h in
-        let f = filled h in
-        let holds : Holds m k es n f s t = holds-after h e in
-        record {
-          exact = e;
-          sheet = refl;
-          table = refl;
-          running = holds .running;
-          latest = latest (s .latest) (kept m k es) (take n t) (holds .built);
-          count = holds .taken;
-          within = holds .fits;
-          shortest = shortest m laws k (fits .some) (fits .recalls) (s .latest) (kept m k es) (take n t) (holds .built);
-          next = λ x work w i p b g.
-              let same : window k s x ≡ w = window-is m k one es n f s t holds x ∙ sym (i .1) in
-              let l : k ≤ length (window k s x) = (let z = window-size m k one es n f s t holds x in omega (arith, i .0)) in
-              let early : s .taken < 50000 = omega (arith, holds .taken) in
-              subst (λ v. Refusals m (kept m k es) v (length t) (answers m k row (length work) (length t) s x)) same
-                (refusals es n f s t holds x work l (subst (Pass m) (sym same) p) b early (decide m k row (length work) (length t) s x) (decided m k row (length work) (length t) s x));
-          grows = λ x work a b q.
-              subst (λ v. (r : List K) × Least number (Serves m (take n t) v) r × (a ≡ length r) × (b ≡ a - k) × (take (n + a) (writes m k row (length work) s x t) ≡ take n t ++ r))
-                (window-is m k one es n f s t holds x)
-                (grown es n f s t holds x work (decide m k row (length work) (length t) s x) (decided m k row (length work) (length t) s x) a b q);
-          closed = holds .counts;
-        }
-
-    moved : (h : List (Turn K)) (s s′ : Contents K) (t t′ : List K) → s′ ≡ s → t′ ≡ t → Followed m number k row t0 h s t → Followed m number k row t0 h s′ t′
-    moved h s s′ t t′ e q i = subst (λ v. Followed m number k row t0 h v t′) (sym e) (subst (λ v. Followed m number k row t0 h s v) (sym q) i)
-
-    -- at the opening
-    pub followed-opened : Followed m number k row t0 [] opened t0
-    followed-opened = followed [] tt
-
-    module _ (h : List (Turn K)) (s : Contents K) (t : List K) (past : Followed m number k row t0 h s t) where
-      -- one letter more
-      pub followed-letter : (x : K) (work left : List ℕ) (r : Result Answer Fault) (s′ : Contents K) (t′ : List K)
-          → r ≡ answers m k row (length work) (length t) s x → left ≡ cleared (needs m) work → s′ ≡ leaves m k row (length work) (length t) s x → t′ ≡ writes m k row (length work) s x t
-          → Followed m number k row t0 (letter x work r left ∷ h) s′ t′
-      followed-letter x work left r s′ t′ a c e q =
-          let u = after m k row t0 h in
-          let at : (F : Contents K → List K → Type 0) → F s t → F (u .0) (u .1) = λ F y. subst (λ v. F v (u .1)) (past .sheet) (subst (F s) (past .table) y) in
-          moved (letter x work r left ∷ h) _ s′ _ t′
-            (at (λ v w. s′ ≡ leaves m k row (length work) (length w) v x) e)
-            (at (λ v w. t′ ≡ writes m k row (length work) v x w) q)
-            (followed (letter x work r left ∷ h) (past .exact, at (λ v w. r ≡ answers m k row (length work) (length w) v x) a, c))
-
-      -- one gap more
-      pub followed-gap : (r : Result (Unit {0}) Fault) (s′ : Contents K) → r ≡ decide-gap s → s′ ≡ leaves-gap s → Followed m number k row t0 (gap r ∷ h) s′ t
-      followed-gap r s′ a e =
-          moved (gap r ∷ h) _ s′ _ t (e ∙ ap leaves-gap (past .sheet)) (past .table)
-            (followed (gap r ∷ h) (past .exact, a ∙ ap decide-gap (past .sheet)))
+    -- one gap more
+    pub followed-gap : (r : Result (Unit {0}) Fault) (s′ : Contents K) → r ≡ decide-gap s → s′ ≡ leaves-gap s → Followed m number k row t0 (gap r ∷ h) s′ t
+    followed-gap r s′ a e =
+        moved (gap r ∷ h) _ s′ _ t (e ∙ ap leaves-gap (past .sheet)) (past .table)
+          (followed (gap r ∷ h) (past .exact, a ∙ ap decide-gap (past .sheet)))
 
 pub sheet-law : {K : Type 0} (m : Model K) (number : K → ℕ) (k : ℕ) (row : List K → List K → Option (List K)) (t0 : List K) → Sheet-law m number k row t0
 sheet-law m number k row t0 laws opens rows = followed m number k row laws (opening-fits m k opens) rows t0

@@ -1,6 +1,7 @@
 -- What a sheet and its text table hold, told by the letters and gaps taken, as one more call is made. Assumes nothing.
 --
---   Holds es n f s t   after the letters and gaps es, with n letters appended and f filled in: the sheet s and the table t
+--   Holds t0 es n f s t   after the letters and gaps es, with n letters appended and f filled in: the sheet s, and the table t,
+--                         which first held t0
 use mathlib.Core.Path.{_≡_, refl, sym, ap, _∙_, subst}
 use mathlib.Core.Bool.{Bool, true, false, not, cond}
 use mathlib.Core.List.{List, [], _∷_, _++_, append-assoc, append-nil}
@@ -9,7 +10,7 @@ use native.Mathlib.Omega.{arith}
 use lib.Dec.{leb}
 use lib.ListN.{length, take, drop, length-append, length-drop, length-take}
 use Rattle.std.proofs.shelf.Elements.{kept-by-append}
-use Rattle.std.proofs.shelf.Lists.{drop-append-le, drop-drop, length-push, length-take-le, take-at, drop-all}
+use Rattle.std.proofs.shelf.Lists.{drop-append-le, drop-drop, length-push, length-take-le, take-at, drop-at, drop-all}
 use Rattle.std.specs.shelf.Lists.{kept-by}
 use Rattle.std.specs.declared.option.Option.{Option}
 use Rattle.std.specs.declared.option.Option.the-variants.{Some, None}
@@ -50,13 +51,21 @@ take-write n r t h =
 pub length-write : {K : Type 0} (n : ℕ) (r t : List K) → n + length r ≤ length t → length (write n r t) ≡ length t
 length-write n r t h = simp (length-append, length-take, length-drop) (omega arith)
 
-module _ {K : Type 0} (m : Model K) (k : ℕ) where
+-- past them it is as it was
+pub drop-write : {K : Type 0} (n : ℕ) (r t : List K) → n + length r ≤ length t → drop (n + length r) (write n r t) ≡ drop (n + length r) t
+drop-write n r t h =
+    let l : length (take n t) ≡ n = length-take-le n t (omega arith) in
+    let e : length (take n t ++ r) ≡ n + length r = length-append (take n t) r ∙ ap (λ i. i + length r) l in
+    ap (drop (n + length r)) (sym (append-assoc (take n t) r (drop (n + length r) t))) ∙ drop-at (take n t ++ r) (drop (n + length r) t) (n + length r) e
+
+module _ {K : Type 0} (m : Model K) (k : ℕ) (t0 : List K) where
   pub record Holds (es : List (Event K)) (n f : ℕ) (s : Contents K) (t : List K) : Type 0 where
     pub running : s .running ≡ last k (since es)
     pub built : Built m k (s .latest) (kept m k es) (take n t)
     pub taken : s .taken ≡ length es
     pub counts : s .counts ≡ record { letters = length (letters es); kept = length (kept m k es); skipped = length (skipped m k es); text = n; filled = f }
     pub fits : n ≤ length t
+    pub rest : drop n t ≡ drop n t0
 
   module _ (o : 1 ≤ k) (es : List (Event K)) (n f : ℕ) (s : Contents K) (t : List K) (holds : Holds es n f s t) where
     -- a gap
@@ -70,6 +79,7 @@ module _ {K : Type 0} (m : Model K) (k : ℕ) where
           taken = ap (λ i. i + 1) (holds .taken) ∙ sym (length-push es Gap);
           counts = rw (same, ls) (holds .counts);
           fits = holds .fits;
+          rest = holds .rest;
         }
 
     module _ (x : K) where
@@ -115,6 +125,7 @@ module _ {K : Type 0} (m : Model K) (k : ℕ) where
             taken = now-taken;
             counts = ap (λ c. counted {K = K} k c wait) (holds .counts) ∙ same-counts _ _ _ n f _ _ _ (sym ls) (ap length (sym (more-none (passes m) none))) (ap length (sym (more-none (λ w. not (passes m w)) none)));
             fits = holds .fits;
+            rest = holds .rest;
           }
 
       pub holds-skip : k ≤ length (window k s x) → passes m (window k s x) ≡ false → Holds (es ++ Letter x ∷ []) n f (carry k s x skip) t
@@ -127,6 +138,7 @@ module _ {K : Type 0} (m : Model K) (k : ℕ) where
             taken = now-taken;
             counts = ap (λ c. counted {K = K} k c skip) (holds .counts) ∙ same-counts _ _ _ n f _ _ _ (sym ls) (ap length (sym same)) (sym (length-push (skipped m k es) (window k s x)) ∙ ap length (sym new));
             fits = holds .fits;
+            rest = holds .rest;
           }
 
       pub holds-keep : (r : List K) → k ≤ length (window k s x) → passes m (window k s x) ≡ true → Built m k (Some (window k s x)) (kept m k es ++ window k s x ∷ []) (take n t ++ r) → n + length r ≤ length t
@@ -140,4 +152,5 @@ module _ {K : Type 0} (m : Model K) (k : ℕ) where
             taken = now-taken;
             counts = ap (λ c. counted {K = K} k c (keep (window k s x) r)) (holds .counts) ∙ same-counts _ _ _ (n + length r) (f + (length r - k)) _ _ _ (sym ls) (sym (length-push (kept m k es) (window k s x)) ∙ ap length (sym new)) (ap length (sym same));
             fits = rw (length-write n r t fits) fits;
+            rest = drop-write n r t fits ∙ sym (drop-drop (length r) n t) ∙ ap (drop (length r)) (holds .rest) ∙ drop-drop (length r) n t0;
           }

@@ -8,7 +8,7 @@
 --   text h t               the text: as much of the table's front as the kept answers appended together
 --   Shortest P s           s is one of the strings with P, and none of them has fewer letters
 --   Refused n r            the answer r is a refusal with the number n
---   Ends-window m k h x w  the next letter x ends the window w
+--   Ends-window k h x w    the next letter x ends the window w
 --   Refusals m ws w n r    r refuses a letter that ends the window w, after the kept windows ws, exactly as it must on a
 --                          text table of n letters
 --   Followed .. h s t      what holds after the calls h
@@ -17,7 +17,7 @@ use mathlib.Core.Path.{_≡_}
 use mathlib.Core.List.{List, [], _∷_, _++_}
 use mathlib.Core.Logic.{_↔_}
 use Prim.Native.Nat.{ℕ, _+_, _-_, _*_, _<_, _≤_}
-use lib.ListN.{length, take}
+use lib.ListN.{length, take, drop}
 use Rattle.std.specs.declared.option.Option.{Option}
 use Rattle.std.specs.declared.option.Option.the-variants.{Some, None}
 use Rattle.std.specs.declared.result.Result.{Result}
@@ -43,8 +43,8 @@ Refused n (Ok a) = ⊥
 Refused n (Err f) = f .number ≡ n
 
 -- with x, k letters would run since the opening or the last gap, and the window is these
-abbrev pub Ends-window : {K : Type 0} → Model K → ℕ → List (Turn K) → K → List K → Type 0
-Ends-window m k h x w = (k ≤ length (since (taken h) ++ x ∷ [])) × (w ≡ last k (since (taken h) ++ x ∷ []))
+abbrev pub Ends-window : {K : Type 0} → ℕ → List (Turn K) → K → List K → Type 0
+Ends-window k h x w = (k ≤ length (since (taken h) ++ x ∷ [])) × (w ≡ last k (since (taken h) ++ x ∷ []))
 
 -- the last kept window, if one is kept
 abbrev pub Latest : {K : Type 0} → List (List K) → Option (List K) → Type 0
@@ -69,12 +69,14 @@ module _ {K : Type 0} (m : Model K) (number : K → ℕ) (k : ℕ) (row : List K
     pub running : s .running ≡ last k (since (taken h))
     pub latest : Latest (kept m k (taken h)) (s .latest)
     pub count : s .taken ≡ length (taken h)
-    -- the text is within the table; it passes and has the kept windows in order, and no rival has fewer letters
+    -- the text is within the table, of which the rest is as it first was
     pub within : appended h ≤ length t
+    pub rest : drop (appended h) t ≡ drop (appended h) t0
+    -- the text passes and has the kept windows in order, and no rival has fewer letters
     pub shortest : Shortest (Rival m (kept m k (taken h))) (text h t)
     -- the next letter, where it ends a window that passes alone and neither the work table nor the number of letters and
     -- gaps taken refuses it
-    pub next : (x : K) (work : List ℕ) (w : List K) → Ends-window m k h x w → Pass m w → 4 * m .count ≤ length work → length (taken h) < 50000
+    pub next : (x : K) (work : List ℕ) (w : List K) → Ends-window k h x w → Pass m w → 4 * m .count ≤ length work → length (taken h) < 50000
         → Refusals m (kept m k (taken h)) w (length t) (answers m k row (length work) (length t) s x)
     -- a letter that is kept appends the shortest row of at least one letter after which the text passes and ends with its
     -- window, of equal ones the first in letter order; the letters above k count as filled in
