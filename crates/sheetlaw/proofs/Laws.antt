@@ -20,7 +20,7 @@ use Rattle.models.specs.Strings.{Ends, Least}
 use Rattle.sheetlaw.specs.Rivals.{Rival}
 use Rattle.sheetlaw.specs.Rows.{Serves, Rows}
 use Rattle.sheetlaw.specs.Calls.{Turn, letter, gap, adds, taken, appended, filled, since, kept, tally}
-use Rattle.sheetlaw.specs.Step.{Contents, Deed, wait, skip, keep, opening, opened, window, needs, row-to, decide, decide-gap, said, unrefused, carry, appends, paused, write, cleared, answers, leaves, writes, leaves-gap, after, Exact, close}
+use Rattle.sheetlaw.specs.Step.{Contents, Deed, wait, skip, keep, opening, opened, window, needs, row-to, decide, decide-gap, said, unrefused, carry, appends, paused, write, cleared, answers, leaves, writes, leaves-gap, after, Exact, close, turn, turns}
 use Rattle.sheetlaw.specs.Law.{text, Refused, Ends-window, Latest, Refusals, Followed, Sheet-law}
 use Rattle.sheetlaw.specs.declared.Event.{Event}
 use Rattle.sheetlaw.specs.declared.Event.the-variants.{Letter, Gap}
@@ -217,3 +217,9 @@ module _ {K : Type 0} (m : Model K) (number : K → ℕ) (k : ℕ) (row : List K
 
 pub sheet-law : {K : Type 0} (m : Model K) (number : K → ℕ) (k : ℕ) (row : List K → List K → Option (List K)) (t0 : List K) → Sheet-law m number k row t0
 sheet-law m number k row t0 laws opens rows = followed m number k row laws (opening-fits m k opens) rows t0
+
+-- the definitions give an exact list of calls for every list of letters and gaps, whatever work tables they bring
+pub turns-exact : {K : Type 0} (m : Model K) (k : ℕ) (row : List K → List K → Option (List K)) (t0 : List K) (h : List (Turn K)) (es : List (Event K × List ℕ)) → Exact m k row t0 h → Exact m k row t0 (turns m k row t0 h es)
+turns-exact m k row t0 h [] e = e
+turns-exact m k row t0 h ((Letter x, work) ∷ es) e = turns-exact m k row t0 (turn m k row t0 h (Letter x, work) ∷ h) es (e, refl, refl)
+turns-exact m k row t0 h ((Gap, work) ∷ es) e = turns-exact m k row t0 (turn m k row t0 h (Gap, work) ∷ h) es (e, refl)

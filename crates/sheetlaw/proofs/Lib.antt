@@ -5,3 +5,4 @@ pub mod Windows
 pub mod Decisions
 pub mod Sheets
 pub mod Laws
+pub mod Examples

@@ -31,6 +31,8 @@ use Rattle.faults.specs.declared.Fault.{Fault}
 use Rattle.faults.specs.Causes.{bad-window, long-memory, short-work, full-sheet, no-string, short-text}
 use Rattle.models.specs.Automaton.{Model, last}
 use Rattle.sheetlaw.specs.Calls.{Turn, letter, gap, passes}
+use Rattle.sheetlaw.specs.declared.Event.{Event}
+use Rattle.sheetlaw.specs.declared.Event.the-variants.{Letter, Gap}
 use Rattle.sheetlaw.specs.declared.Answer.{Answer}
 use Rattle.sheetlaw.specs.declared.Answer.the-variants.{Pending, Skipped, Kept}
 use Rattle.sheetlaw.specs.declared.Counts.{Counts}
@@ -176,3 +178,14 @@ module _ {K : Type 0} (m : Model K) (k : ℕ) (row : List K → List K → Optio
       let u = after t h in Exact t h × (r ≡ answers (length work) (length (u .1)) (u .0) x) × (left ≡ cleared (needs m) work)
   Exact t (gap r ∷ h) =
       let u = after t h in Exact t h × (r ≡ decide-gap (u .0))
+
+  -- the next call, with what the definitions give for it, and all calls for a list of letters and gaps: a letter brings the
+  -- work table that stands beside it
+  abbrev pub turn : List K → List (Turn K) → Event K × List ℕ → Turn K
+  turn t h (Letter x, work) =
+      let u = after t h in letter x work (answers (length work) (length (u .1)) (u .0) x) (cleared (needs m) work)
+  turn t h (Gap, _) = gap (decide-gap (after t h .0))
+
+  abbrev pub turns : List K → List (Turn K) → List (Event K × List ℕ) → List (Turn K)
+  turns t h [] = h
+  turns t h (e ∷ es) = turns t (turn t h e ∷ h) es
