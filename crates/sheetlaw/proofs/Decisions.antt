@@ -18,7 +18,7 @@ use Rattle.faults.specs.declared.Fault.{Fault}
 use Rattle.faults.specs.Causes.{short-work, full-sheet, no-string, short-text}
 use Rattle.models.specs.Automaton.{Model, last}
 use Rattle.sheetlaw.specs.Calls.{passes}
-use Rattle.sheetlaw.specs.Step.{Contents, Deed, wait, skip, keep, window, given, unless, row-to, needs, decide, decide-gap}
+use Rattle.sheetlaw.specs.Step.{Contents, Outcome, wait, skip, keep, window, refuse-none, refuse-if, row-to, needs, decide, pauses}
 
 module _ {K : Type 0} (m : Model K) (k : ℕ) (row : List K → List K → Option (List K)) (work room : ℕ) (s : Contents K) (x : K) where
   -- the first two causes do not hold
@@ -32,7 +32,7 @@ module _ {K : Type 0} (m : Model K) (k : ℕ) (row : List K → List K → Optio
   abbrev pub Row : List K → Type 0
   Row r = row-to row (s .latest) (window k s x) ≡ Some r
 
-  abbrev pub Decided : Result (Deed K) Fault → Type 0
+  abbrev pub Decided : Result (Outcome K) Fault → Type 0
   Decided (Ok wait) = Free × (length (window k s x) < k)
   Decided (Ok skip) = Free × (k ≤ length (window k s x)) × (passes m (window k s x) ≡ false)
   Decided (Ok (keep w r)) = Free × Whole × Row r × (w ≡ window k s x) × (s .counts .text + length r ≤ room)
@@ -52,7 +52,7 @@ module _ {K : Type 0} (m : Model K) (k : ℕ) (row : List K → List K → Optio
       (λ p. (free, ltb-false (length (window k s x)) k g, p)))))
     where
       found : Free → Whole → (o : Option (List K)) → row-to row (s .latest) (window k s x) ≡ o
-          → Decided (given o (no-string (s .taken)) (λ r. unless (ltb room (s .counts .text + length r)) (short-text (s .counts .text + length r)) (Ok (keep (window k s x) r))))
+          → Decided (refuse-none o (no-string (s .taken)) (λ r. refuse-if (ltb room (s .counts .text + length r)) (short-text (s .counts .text + length r)) (Ok (keep (window k s x) r))))
       found free whole None e = inr (inr (inl (free, whole, e, refl)))
       found free whole (Some r) e =
           cond-both (ltb room (s .counts .text + length r)) _ _ Decided
@@ -64,5 +64,5 @@ module _ {K : Type 0} (s : Contents K) where
   Paused (Ok _) = s .taken < 50000
   Paused (Err f) = (50000 ≤ s .taken) × (f ≡ full-sheet)
 
-  pub decided-gap : Paused (decide-gap s)
-  decided-gap = cond-both (leb 50000 (s .taken)) _ _ Paused (λ e. (leb-true 50000 (s .taken) e, refl)) (λ e. leb-false 50000 (s .taken) e)
+  pub paused-so : Paused (pauses s)
+  paused-so = cond-both (leb 50000 (s .taken)) _ _ Paused (λ e. (leb-true 50000 (s .taken) e, refl)) (λ e. leb-false 50000 (s .taken) e)

@@ -14,7 +14,8 @@ use Rattle.faults.specs.declared.Fault.{Fault}
 use Rattle.faults.specs.Causes.{short-work, no-string, short-text}
 use Rattle.models.specs.Automaton.{Model, last}
 use Rattle.sheetlaw.specs.Calls.{Turn, letter, gap, passes}
-use Rattle.sheetlaw.specs.Step.{Contents, after, turns, close}
+use Rattle.sheetlaw.specs.Step.{close}
+use Rattle.sheetlaw.specs.Runs.{after, turns}
 use Rattle.sheetlaw.specs.Law.{text}
 use Rattle.sheetlaw.specs.declared.Event.{Event}
 use Rattle.sheetlaw.specs.declared.Event.the-variants.{Letter, Gap}

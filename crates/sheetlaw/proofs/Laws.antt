@@ -20,14 +20,15 @@ use Rattle.models.specs.Strings.{Ends, Least}
 use Rattle.sheetlaw.specs.Rivals.{Rival}
 use Rattle.sheetlaw.specs.Rows.{Serves, Rows}
 use Rattle.sheetlaw.specs.Calls.{Turn, letter, gap, adds, taken, appended, filled, since, kept, tally}
-use Rattle.sheetlaw.specs.Step.{Contents, Deed, wait, skip, keep, opening, opened, window, needs, row-to, decide, decide-gap, said, unrefused, carry, appends, paused, write, cleared, answers, leaves, writes, leaves-gap, after, Exact, close, turn, turns}
+use Rattle.sheetlaw.specs.Step.{Contents, Outcome, wait, skip, keep, opening, opened, window, needs, row-to, decide, pauses, said, if-taken, carry, append, pause, write, cleared, answers, leaves, writes, leaves-gap, close}
+use Rattle.sheetlaw.specs.Runs.{after, Exact, turn, turns}
 use Rattle.sheetlaw.specs.Law.{text, Refused, Ends-window, Latest, Refusals, Followed, Sheet-law}
 use Rattle.sheetlaw.specs.declared.Event.{Event}
 use Rattle.sheetlaw.specs.declared.Event.the-variants.{Letter, Gap}
 use Rattle.sheetlaw.specs.declared.Answer.{Answer}
 use Rattle.sheetlaw.specs.declared.Answer.the-variants.{Pending, Skipped, Kept}
 use Rattle.sheetlaw.proofs.Texts.{Built, built-more, shortest, row-least, no-rival, row-shortest}
-use Rattle.sheetlaw.proofs.Decisions.{Free, Whole, Row, Decided, decided, Paused, decided-gap}
+use Rattle.sheetlaw.proofs.Decisions.{Free, Whole, Row, Decided, decided, Paused, paused-so}
 use Rattle.sheetlaw.proofs.Sheets.{Holds, holds-gap, window-is, window-size, holds-wait, holds-skip, holds-keep, take-write}
 
 -- what an opening that is not refused shows
@@ -51,7 +52,7 @@ module _ {K : Type 0} (m : Model K) (number : K → ℕ) (k : ℕ) (row : List K
     texts : s .counts .text ≡ n
     texts = ap (λ c. c .text) (holds .counts)
 
-    holds-paused : (o : Result (Unit {0}) Fault) → let c : Turn K = gap o in Holds m k t0 (es ++ adds c .events) (n + adds c .appended) (f + adds c .filled) (unrefused o s (λ _. paused s)) t
+    holds-paused : (o : Result (Unit {0}) Fault) → let c : Turn K = gap o in Holds m k t0 (es ++ adds c .events) (n + adds c .appended) (f + adds c .filled) (if-taken o (λ _. pause s) s) t
     holds-paused (Ok u) =
         let a : n + 0 ≡ n = omega arith in
         let b : f + 0 ≡ f = omega arith in
@@ -67,9 +68,9 @@ module _ {K : Type 0} (m : Model K) (number : K → ℕ) (k : ℕ) (row : List K
       exactly : k ≤ length (window k s x) → length (window k s x) ≡ k
       exactly l = let z = window-size m k t0 one es n f s t holds x in omega arith
 
-      holds-decided : (o : Result (Deed K) Fault) (left : List ℕ) → Decided m k row (length work) (length t) s x o
+      holds-decided : (o : Result (Outcome K) Fault) (left : List ℕ) → Decided m k row (length work) (length t) s x o
           → Holds m k t0 (es ++ adds (letter x work (said k o) left) .events) (n + adds (letter x work (said k o) left) .appended) (f + adds (letter x work (said k o) left) .filled)
-              (unrefused o s (carry k s x)) (unrefused o t (appends s t))
+              (if-taken o (carry k s x) s) (if-taken o (append s t) t)
       holds-decided (Ok wait) left d =
           let a : n + 0 ≡ n = omega arith in
           let b : f + 0 ≡ f = omega arith in
@@ -104,7 +105,7 @@ module _ {K : Type 0} (m : Model K) (number : K → ℕ) (k : ℕ) (row : List K
         none e = no-rival m laws k (fits .some) (fits .recalls) number row rows (s .latest) (kept m k es) (take n t) (window k s x) (holds .built) (exactly l) p e
 
         refusals : needs m ≤ length work → s .taken < 50000
-            → (o : Result (Deed K) Fault) → Decided m k row (length work) (length t) s x o → Refusals m (kept m k es) (window k s x) (length t) (said k o)
+            → (o : Result (Outcome K) Fault) → Decided m k row (length work) (length t) s x o → Refusals m (kept m k es) (window k s x) (length t) (said k o)
         refusals b g (Ok wait) d = absurd (omega (arith, d .1))
         refusals b g (Ok skip) d = absurd (let z : true ≡ false = sym p ∙ d .2 in let y : _≡_ {A = ℕ} 0 1 = cc in omega arith)
         refusals b g (Ok (keep v r)) (free, whole, here, same, room) = record {
@@ -123,8 +124,8 @@ module _ {K : Type 0} (m : Model K) (number : K → ℕ) (k : ℕ) (row : List K
         }
 
       -- what a kept letter appends
-      grown : (o : Result (Deed K) Fault) → Decided m k row (length work) (length t) s x o → (a b : ℕ) → said k o ≡ Ok (Kept a b)
-          → (r : List K) × Least number (Serves m (take n t) (window k s x)) r × (a ≡ length r) × (b ≡ a - k) × (take (n + a) (unrefused o t (appends s t)) ≡ take n t ++ r)
+      grown : (o : Result (Outcome K) Fault) → Decided m k row (length work) (length t) s x o → (a b : ℕ) → said k o ≡ Ok (Kept a b)
+          → (r : List K) × Least number (Serves m (take n t) (window k s x)) r × (a ≡ length r) × (b ≡ a - k) × (take (n + a) (if-taken o (append s t) t) ≡ take n t ++ r)
       grown (Ok wait) d a b e = absurd (let z : _≡_ {A = ℕ} 0 1 = cc in omega arith)
       grown (Ok skip) d a b e = absurd (let z : _≡_ {A = ℕ} 0 1 = cc in omega arith)
       grown (Ok (keep v r)) (free, whole, here, same, room) a b e =
@@ -152,7 +153,7 @@ module _ {K : Type 0} (m : Model K) (number : K → ℕ) (k : ℕ) (row : List K
       rw a d
   holds-after (gap r ∷ h) (e, a) =
       let u = after m k row t0 h in
-      rw a (holds-paused (taken h) (appended h) (filled h) (u .0) (u .1) (holds-after h e) (decide-gap (u .0)))
+      rw a (holds-paused (taken h) (appended h) (filled h) (u .0) (u .1) (holds-after h e) (pauses (u .0)))
 
   latest : (o : Option (List K)) (ws : List (List K)) (t : List K) → Built m k o ws t → Latest ws o
   latest None ws t b = b .0
@@ -210,10 +211,10 @@ module _ {K : Type 0} (m : Model K) (number : K → ℕ) (k : ℕ) (row : List K
           (followed (letter x work r left ∷ h) (past .exact, at (λ v w. r ≡ answers m k row (length work) (length w) v x) a, c))
 
     -- one gap more
-    pub followed-gap : (r : Result (Unit {0}) Fault) (s′ : Contents K) → r ≡ decide-gap s → s′ ≡ leaves-gap s → Followed m number k row t0 (gap r ∷ h) s′ t
+    pub followed-gap : (r : Result (Unit {0}) Fault) (s′ : Contents K) → r ≡ pauses s → s′ ≡ leaves-gap s → Followed m number k row t0 (gap r ∷ h) s′ t
     followed-gap r s′ a e =
         moved (gap r ∷ h) _ s′ _ t (e ∙ ap leaves-gap (past .sheet)) (past .table)
-          (followed (gap r ∷ h) (past .exact, a ∙ ap decide-gap (past .sheet)))
+          (followed (gap r ∷ h) (past .exact, a ∙ ap pauses (past .sheet)))
 
 pub sheet-law : {K : Type 0} (m : Model K) (number : K → ℕ) (k : ℕ) (row : List K → List K → Option (List K)) (t0 : List K) → Sheet-law m number k row t0
 sheet-law m number k row t0 laws opens rows = followed m number k row laws (opening-fits m k opens) rows t0

@@ -18,7 +18,7 @@ use Rattle.models.specs.Automaton.{Model, Lawful, Pass, last}
 use Rattle.models.specs.Strings.{Least}
 use Rattle.sheetlaw.specs.Rows.{Serves, Rows}
 use Rattle.sheetlaw.specs.Calls.{letters, since, windows, passes, kept, skipped}
-use Rattle.sheetlaw.specs.Step.{Contents, Deed, wait, skip, keep, window, counted, carry, paused, write, row-to}
+use Rattle.sheetlaw.specs.Step.{Contents, Outcome, wait, skip, keep, window, count, carry, pause, write, row-to}
 use Rattle.sheetlaw.specs.declared.Event.{Event}
 use Rattle.sheetlaw.specs.declared.Event.the-variants.{Letter, Gap}
 use Rattle.sheetlaw.specs.declared.Counts.{Counts}
@@ -69,7 +69,7 @@ module _ {K : Type 0} (m : Model K) (k : ℕ) (t0 : List K) where
 
   module _ (o : 1 ≤ k) (es : List (Event K)) (n f : ℕ) (s : Contents K) (t : List K) (holds : Holds es n f s t) where
     -- a gap
-    pub holds-gap : Holds (es ++ Gap ∷ []) n f (paused s) t
+    pub holds-gap : Holds (es ++ Gap ∷ []) n f (pause s) t
     holds-gap =
         let same = windows-gap k o es in
         let ls : letters (es ++ Gap ∷ []) ≡ letters es = letters-append es (Gap ∷ []) ∙ append-nil (letters es) in
@@ -123,7 +123,7 @@ module _ {K : Type 0} (m : Model K) (k : ℕ) (t0 : List K) where
             running = now-runs;
             built = subst (λ ws. Built m k (s .latest) ws (take n t)) (sym (more-none (passes m) none)) (holds .built);
             taken = now-taken;
-            counts = ap (λ c. counted {K = K} k c wait) (holds .counts) ∙ same-counts _ _ _ n f _ _ _ (sym ls) (ap length (sym (more-none (passes m) none))) (ap length (sym (more-none (λ w. not (passes m w)) none)));
+            counts = ap (λ c. count {K = K} k c wait) (holds .counts) ∙ same-counts _ _ _ n f _ _ _ (sym ls) (ap length (sym (more-none (passes m) none))) (ap length (sym (more-none (λ w. not (passes m w)) none)));
             fits = holds .fits;
             rest = holds .rest;
           }
@@ -136,7 +136,7 @@ module _ {K : Type 0} (m : Model K) (k : ℕ) (t0 : List K) where
             running = now-runs;
             built = subst (λ ws. Built m k (s .latest) ws (take n t)) (sym same) (holds .built);
             taken = now-taken;
-            counts = ap (λ c. counted {K = K} k c skip) (holds .counts) ∙ same-counts _ _ _ n f _ _ _ (sym ls) (ap length (sym same)) (sym (length-push (skipped m k es) (window k s x)) ∙ ap length (sym new));
+            counts = ap (λ c. count {K = K} k c skip) (holds .counts) ∙ same-counts _ _ _ n f _ _ _ (sym ls) (ap length (sym same)) (sym (length-push (skipped m k es) (window k s x)) ∙ ap length (sym new));
             fits = holds .fits;
             rest = holds .rest;
           }
@@ -150,7 +150,7 @@ module _ {K : Type 0} (m : Model K) (k : ℕ) (t0 : List K) where
             running = now-runs;
             built = subst (λ ws. Built m k (Some (window k s x)) ws (take (n + length r) (write n r t))) (sym new) (subst (λ u. Built m k (Some (window k s x)) (kept m k es ++ window k s x ∷ []) u) (sym (take-write n r t fits)) b);
             taken = now-taken;
-            counts = ap (λ c. counted {K = K} k c (keep (window k s x) r)) (holds .counts) ∙ same-counts _ _ _ (n + length r) (f + (length r - k)) _ _ _ (sym ls) (sym (length-push (kept m k es) (window k s x)) ∙ ap length (sym new)) (ap length (sym same));
+            counts = ap (λ c. count {K = K} k c (keep (window k s x) r)) (holds .counts) ∙ same-counts _ _ _ (n + length r) (f + (length r - k)) _ _ _ (sym ls) (sym (length-push (kept m k es) (window k s x)) ∙ ap length (sym new)) (ap length (sym same));
             fits = rw (length-write n r t fits) fits;
             rest = drop-write n r t fits ∙ sym (drop-drop (length r) n t) ∙ ap (drop (length r)) (holds .rest) ∙ drop-drop (length r) n t0;
           }

@@ -28,7 +28,8 @@ use Rattle.models.specs.Strings.{Ends, Least}
 use Rattle.sheetlaw.specs.Rivals.{Rival}
 use Rattle.sheetlaw.specs.Rows.{Serves, Rows}
 use Rattle.sheetlaw.specs.Calls.{Turn, taken, appended, since, kept, tally}
-use Rattle.sheetlaw.specs.Step.{Contents, opening, opened, needs, answers, writes, after, Exact, close}
+use Rattle.sheetlaw.specs.Step.{Contents, opening, opened, answers, writes, close}
+use Rattle.sheetlaw.specs.Runs.{after, Exact}
 use Rattle.sheetlaw.specs.declared.Answer.{Answer}
 use Rattle.sheetlaw.specs.declared.Answer.the-variants.{Kept}
 
