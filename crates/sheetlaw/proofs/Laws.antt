@@ -144,6 +144,7 @@ module _ {K : Type 0} (m : Model K) (number : K → ℕ) (k : ℕ) (row : List K
     taken = refl;
     counts = refl;
     fits = omega arith;
+    size = refl;
     rest = refl;
   }
   holds-after (letter x work r left ∷ h) (e, a, _) =
@@ -174,6 +175,7 @@ module _ {K : Type 0} (m : Model K) (number : K → ℕ) (k : ℕ) (row : List K
         running = holds .running;
         latest = latest (s .latest) (kept m k es) (take n t) (holds .built);
         count = holds .taken;
+        size = holds .size;
         within = holds .fits;
         rest = holds .rest;
         shortest = shortest m laws k (fits .some) (fits .recalls) (s .latest) (kept m k es) (take n t) (holds .built);

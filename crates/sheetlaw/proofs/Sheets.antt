@@ -65,6 +65,7 @@ module _ {K : Type 0} (m : Model K) (k : ℕ) (t0 : List K) where
     pub taken : s .taken ≡ length es
     pub counts : s .counts ≡ record { letters = length (letters es); kept = length (kept m k es); skipped = length (skipped m k es); text = n; filled = f }
     pub fits : n ≤ length t
+    pub size : length t ≡ length t0
     pub rest : drop n t ≡ drop n t0
 
   module _ (o : 1 ≤ k) (es : List (Event K)) (n f : ℕ) (s : Contents K) (t : List K) (holds : Holds es n f s t) where
@@ -79,6 +80,7 @@ module _ {K : Type 0} (m : Model K) (k : ℕ) (t0 : List K) where
           taken = ap (λ i. i + 1) (holds .taken) ∙ sym (length-push es Gap);
           counts = rw (same, ls) (holds .counts);
           fits = holds .fits;
+          size = holds .size;
           rest = holds .rest;
         }
 
@@ -125,6 +127,7 @@ module _ {K : Type 0} (m : Model K) (k : ℕ) (t0 : List K) where
             taken = now-taken;
             counts = ap (λ c. count {K = K} k c wait) (holds .counts) ∙ same-counts _ _ _ n f _ _ _ (sym ls) (ap length (sym (more-none (passes m) none))) (ap length (sym (more-none (λ w. not (passes m w)) none)));
             fits = holds .fits;
+            size = holds .size;
             rest = holds .rest;
           }
 
@@ -138,6 +141,7 @@ module _ {K : Type 0} (m : Model K) (k : ℕ) (t0 : List K) where
             taken = now-taken;
             counts = ap (λ c. count {K = K} k c skip) (holds .counts) ∙ same-counts _ _ _ n f _ _ _ (sym ls) (ap length (sym same)) (sym (length-push (skipped m k es) (window k s x)) ∙ ap length (sym new));
             fits = holds .fits;
+            size = holds .size;
             rest = holds .rest;
           }
 
@@ -152,5 +156,6 @@ module _ {K : Type 0} (m : Model K) (k : ℕ) (t0 : List K) where
             taken = now-taken;
             counts = ap (λ c. count {K = K} k c (keep (window k s x) r)) (holds .counts) ∙ same-counts _ _ _ (n + length r) (f + (length r - k)) _ _ _ (sym ls) (sym (length-push (kept m k es) (window k s x)) ∙ ap length (sym new)) (ap length (sym same));
             fits = rw (length-write n r t fits) fits;
+            size = length-write n r t fits ∙ holds .size;
             rest = drop-write n r t fits ∙ sym (drop-drop (length r) n t) ∙ ap (drop (length r)) (holds .rest) ∙ drop-drop (length r) n t0;
           }

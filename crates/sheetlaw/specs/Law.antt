@@ -70,7 +70,8 @@ module _ {K : Type 0} (m : Model K) (number : K → ℕ) (k : ℕ) (row : List K
     pub running : s .running ≡ last k (since (taken h))
     pub latest : Latest (kept m k (taken h)) (s .latest)
     pub count : s .taken ≡ length (taken h)
-    -- the text is within the table, of which the rest is as it first was
+    -- the text is within the table, which keeps its length and of which the rest is as it first was
+    pub size : length t ≡ length t0
     pub within : appended h ≤ length t
     pub rest : drop (appended h) t ≡ drop (appended h) t0
     -- the text passes and has the kept windows in order, and no rival has fewer letters
