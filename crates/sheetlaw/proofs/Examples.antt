@@ -95,26 +95,89 @@ tally-of a b c d e = record { letters = a; kept = b; skipped = c; text = d; fill
 abbrev examples : List Example
 examples =
     -- a window for which two letters are filled in
-    record { model = barring 3 (18 ∷ 22 ∷ 31 ∷ []); k = 4; work = replicate 65 9; room = 30; trace = 0 ∷ 1 ∷ 1 ∷ 1 ∷ 1 ∷ 0 ∷ 0 ∷ 0 ∷ 1 ∷ 0 ∷ 0 ∷ [];
-      rewritten = 0 ∷ 1 ∷ 1 ∷ 1 ∷ 0 ∷ 0 ∷ 0 ∷ 1 ∷ 1 ∷ 1 ∷ 0 ∷ 1 ∷ 0 ∷ 0 ∷ []; counts = tally-of 11 6 2 14 2; answer = Ok (Kept 6 2); left = replicate 64 0 ++ 9 ∷ [] }
+    record {
+      model = barring 3 (18 ∷ 22 ∷ 31 ∷ []);
+      k = 4;
+      work = replicate 65 9;
+      room = 30;
+      trace = 0 ∷ 1 ∷ 1 ∷ 1 ∷ 1 ∷ 0 ∷ 0 ∷ 0 ∷ 1 ∷ 0 ∷ 0 ∷ [];
+      rewritten = 0 ∷ 1 ∷ 1 ∷ 1 ∷ 0 ∷ 0 ∷ 0 ∷ 1 ∷ 1 ∷ 1 ∷ 0 ∷ 1 ∷ 0 ∷ 0 ∷ [];
+      counts = tally-of 11 6 2 14 2;
+      answer = Ok (Kept 6 2);
+      left = replicate 64 0 ++ 9 ∷ [];
+    }
     -- windows that do not pass are skipped
-    ∷ record { model = barring 2 (8 ∷ []); k = 3; work = replicate 32 1; room = 4; trace = 1 ∷ 0 ∷ 0 ∷ 0 ∷ 0 ∷ 0 ∷ 1 ∷ [];
-      rewritten = 1 ∷ 0 ∷ 0 ∷ 1 ∷ []; counts = tally-of 7 2 3 4 0; answer = Ok (Kept 1 0); left = replicate 32 0 }
+    ∷ record {
+      model = barring 2 (8 ∷ []);
+      k = 3;
+      work = replicate 32 1;
+      room = 4;
+      trace = 1 ∷ 0 ∷ 0 ∷ 0 ∷ 0 ∷ 0 ∷ 1 ∷ [];
+      rewritten = 1 ∷ 0 ∷ 0 ∷ 1 ∷ [];
+      counts = tally-of 7 2 3 4 0;
+      answer = Ok (Kept 1 0);
+      left = replicate 32 0;
+    }
     -- equal windows do not merge
-    ∷ record { model = barring 1 []; k = 2; work = replicate 16 1; room = 9; trace = 0 ∷ 0 ∷ 0 ∷ 0 ∷ [];
-      rewritten = 0 ∷ 0 ∷ 0 ∷ 0 ∷ []; counts = tally-of 4 3 0 4 0; answer = Ok (Kept 1 0); left = replicate 16 0 }
+    ∷ record {
+      model = barring 1 [];
+      k = 2;
+      work = replicate 16 1;
+      room = 9;
+      trace = 0 ∷ 0 ∷ 0 ∷ 0 ∷ [];
+      rewritten = 0 ∷ 0 ∷ 0 ∷ 0 ∷ [];
+      counts = tally-of 4 3 0 4 0;
+      answer = Ok (Kept 1 0);
+      left = replicate 16 0;
+    }
     -- a window that no row leads to
-    ∷ record { model = barring 1 (5 ∷ []); k = 2; work = replicate 16 1; room = 9; trace = 0 ∷ 0 ∷ 2 ∷ 1 ∷ 1 ∷ [];
-      rewritten = 0 ∷ 0 ∷ []; counts = tally-of 3 1 0 2 0; answer = Err (no-string 4); left = replicate 16 0 }
+    ∷ record {
+      model = barring 1 (5 ∷ []);
+      k = 2;
+      work = replicate 16 1;
+      room = 9;
+      trace = 0 ∷ 0 ∷ 2 ∷ 1 ∷ 1 ∷ [];
+      rewritten = 0 ∷ 0 ∷ [];
+      counts = tally-of 3 1 0 2 0;
+      answer = Err (no-string 4);
+      left = replicate 16 0;
+    }
     -- with a memory of k letters even the next window may need a filling
-    ∷ record { model = barring 4 (32 ∷ 63 ∷ []); k = 4; work = replicate 128 1; room = 9; trace = 0 ∷ 0 ∷ 0 ∷ 0 ∷ 0 ∷ [];
-      rewritten = 0 ∷ 0 ∷ 0 ∷ 0 ∷ 1 ∷ 0 ∷ 0 ∷ 0 ∷ 0 ∷ []; counts = tally-of 5 2 0 9 1; answer = Ok (Kept 5 1); left = replicate 128 0 }
+    ∷ record {
+      model = barring 4 (32 ∷ 63 ∷ []);
+      k = 4;
+      work = replicate 128 1;
+      room = 9;
+      trace = 0 ∷ 0 ∷ 0 ∷ 0 ∷ 0 ∷ [];
+      rewritten = 0 ∷ 0 ∷ 0 ∷ 0 ∷ 1 ∷ 0 ∷ 0 ∷ 0 ∷ 0 ∷ [];
+      counts = tally-of 5 2 0 9 1;
+      answer = Ok (Kept 5 1);
+      left = replicate 128 0;
+    }
     -- a text table that is too short for the first window
-    ∷ record { model = barring 1 []; k = 4; work = replicate 16 1; room = 3; trace = 0 ∷ 0 ∷ 0 ∷ 0 ∷ [];
-      rewritten = []; counts = tally-of 3 0 0 0 0; answer = Err (short-text 4); left = replicate 16 0 }
+    ∷ record {
+      model = barring 1 [];
+      k = 4;
+      work = replicate 16 1;
+      room = 3;
+      trace = 0 ∷ 0 ∷ 0 ∷ 0 ∷ [];
+      rewritten = [];
+      counts = tally-of 3 0 0 0 0;
+      answer = Err (short-text 4);
+      left = replicate 16 0;
+    }
     -- a work table that is too short
-    ∷ record { model = barring 1 []; k = 4; work = replicate 15 1; room = 3; trace = 0 ∷ 2 ∷ 0 ∷ [];
-      rewritten = []; counts = tally-of 0 0 0 0 0; answer = Err (short-work 16); left = replicate 15 1 }
+    ∷ record {
+      model = barring 1 [];
+      k = 4;
+      work = replicate 15 1;
+      room = 3;
+      trace = 0 ∷ 2 ∷ 0 ∷ [];
+      rewritten = [];
+      counts = tally-of 0 0 0 0 0;
+      answer = Err (short-work 16);
+      left = replicate 15 1;
+    }
     ∷ []
 
 computed : All Computes examples

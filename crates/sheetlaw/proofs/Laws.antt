@@ -70,7 +70,7 @@ module _ {K : Type 0} (m : Model K) (number : K → ℕ) (k : ℕ) (row : List K
 
       holds-decided : (o : Result (Outcome K) Fault) (left : List ℕ) → Decided m k row (length work) (length t) s x o
           → Holds m k t0 (es ++ adds (letter x work (said k o) left) .events) (n + adds (letter x work (said k o) left) .appended) (f + adds (letter x work (said k o) left) .filled)
-              (if-taken o (carry k s x) s) (if-taken o (append s t) t)
+          (if-taken o (carry k s x) s) (if-taken o (append s t) t)
       holds-decided (Ok wait) left d =
           let a : n + 0 ≡ n = omega arith in
           let b : f + 0 ≡ f = omega arith in
@@ -131,10 +131,13 @@ module _ {K : Type 0} (m : Model K) (number : K → ℕ) (k : ℕ) (row : List K
       grown (Ok (keep v r)) (free, whole, here, same, room) a b e =
           let p : a ≡ length r = cc in
           let q : b ≡ length r - k = cc in
-          let inside : n + length r ≤ length t = subst (λ i. i + length r ≤ length t) texts room in
-          (r, row-least m laws k (fits .some) (fits .recalls) number row rows (s .latest) (kept m k es) (take n t) (window k s x) r (holds .built) (exactly (whole .0)) (whole .1) here,
-            p, q ∙ ap (λ i. i - k) (sym p),
-            ap (λ i. take (n + i) (write (s .counts .text) r t)) p ∙ ap (λ i. take (n + length r) (write i r t)) texts ∙ take-write n r t inside)
+          let inside : n + length r ≤ length t = subst (λ i. i + length r ≤ length t) texts room in (
+            r,
+            row-least m laws k (fits .some) (fits .recalls) number row rows (s .latest) (kept m k es) (take n t) (window k s x) r (holds .built) (exactly (whole .0)) (whole .1) here,
+            p,
+            q ∙ ap (λ i. i - k) (sym p),
+            ap (λ i. take (n + i) (write (s .counts .text) r t)) p ∙ ap (λ i. take (n + length r) (write i r t)) texts ∙ take-write n r t inside,
+          )
       grown (Err q) d a b e = absurd (let z : _≡_ {A = ℕ} 0 1 = cc in omega arith)
 
   holds-after : (h : List (Turn K)) → Exact m k row t0 h → Holds m k t0 (taken h) (appended h) (filled h) (after m k row t0 h .0) (after m k row t0 h .1)
@@ -184,11 +187,11 @@ module _ {K : Type 0} (m : Model K) (number : K → ℕ) (k : ℕ) (row : List K
             let l : k ≤ length (window k s x) = (let z = window-size m k t0 one es n f s t holds x in omega (arith, i .0)) in
             let early : s .taken < 50000 = omega (arith, holds .taken) in
             subst (λ v. Refusals m (kept m k es) v (length t) (answers m k row (length work) (length t) s x)) same
-              (refusals es n f s t holds x work l (subst (Pass m) (sym same) p) b early (decide m k row (length work) (length t) s x) (decided m k row (length work) (length t) s x));
+            (refusals es n f s t holds x work l (subst (Pass m) (sym same) p) b early (decide m k row (length work) (length t) s x) (decided m k row (length work) (length t) s x));
         grows = λ x work a b q.
             subst (λ v. (r : List K) × Least number (Serves m (take n t) v) r × (a ≡ length r) × (b ≡ a - k) × (take (n + a) (writes m k row (length work) s x t) ≡ take n t ++ r))
-              (window-is m k t0 one es n f s t holds x)
-              (grown es n f s t holds x work (decide m k row (length work) (length t) s x) (decided m k row (length work) (length t) s x) a b q);
+            (window-is m k t0 one es n f s t holds x)
+            (grown es n f s t holds x work (decide m k row (length work) (length t) s x) (decided m k row (length work) (length t) s x) a b q);
         closed = holds .counts;
       }
 
@@ -208,15 +211,15 @@ module _ {K : Type 0} (m : Model K) (number : K → ℕ) (k : ℕ) (row : List K
         let u = after m k row t0 h in
         let at : (F : Contents K → List K → Type 0) → F s t → F (u .0) (u .1) = λ F y. subst (λ v. F v (u .1)) (past .sheet) (subst (F s) (past .table) y) in
         moved (letter x work r left ∷ h) _ s′ _ t′
-          (at (λ v w. s′ ≡ leaves m k row (length work) (length w) v x) e)
-          (at (λ v w. t′ ≡ writes m k row (length work) v x w) q)
-          (followed (letter x work r left ∷ h) (past .exact, at (λ v w. r ≡ answers m k row (length work) (length w) v x) a, c))
+        (at (λ v w. s′ ≡ leaves m k row (length work) (length w) v x) e)
+        (at (λ v w. t′ ≡ writes m k row (length work) v x w) q)
+        (followed (letter x work r left ∷ h) (past .exact, at (λ v w. r ≡ answers m k row (length work) (length w) v x) a, c))
 
     -- one gap more
     pub followed-gap : (r : Result (Unit {0}) Fault) (s′ : Contents K) → r ≡ pauses s → s′ ≡ leaves-gap s → Followed m number k row t0 (gap r ∷ h) s′ t
     followed-gap r s′ a e =
         moved (gap r ∷ h) _ s′ _ t (e ∙ ap leaves-gap (past .sheet)) (past .table)
-          (followed (gap r ∷ h) (past .exact, a ∙ ap pauses (past .sheet)))
+        (followed (gap r ∷ h) (past .exact, a ∙ ap pauses (past .sheet)))
 
 pub sheet-law : {K : Type 0} (m : Model K) (number : K → ℕ) (k : ℕ) (row : List K → List K → Option (List K)) (t0 : List K) → Sheet-law m number k row t0
 sheet-law m number k row t0 laws opens rows = followed m number k row laws (opening-fits m k opens) rows t0

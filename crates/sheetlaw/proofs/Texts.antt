@@ -70,36 +70,42 @@ module _ {K : Type 0} (m : Model K) (laws : Lawful m) (k : ℕ) (some : 2 ≤ k)
       let n′ : length t ≡ length (b .front) + length u = ap length (b .ends) ∙ length-append (b .front) u in
       let here : At u (length (b .front)) (t ++ r) = rw (b .ends) (at-put (b .front) u r) in
       let some-letters : All (λ v. 0 < length v) us = all-weaker (λ v. length v ≡ k) (λ v. 0 < length v) (λ v x. omega arith) us (b .sized) in
-      rw e (within-push (t ++ r) 0 (length (f .2 .0)) (length (b .front)) us u (omega arith) (omega (arith, f .0)) (within-more t r 0 (length (b .front)) us some-letters (b .before)) here,
-        all-push (λ v. length v ≡ k) us u (b .sized) lu)
+      rw e (
+        within-push (t ++ r) 0 (length (f .2 .0)) (length (b .front)) us u (omega arith) (omega (arith, f .0)) (within-more t r 0 (length (b .front)) us some-letters (b .before)) here,
+        all-push (λ v. length v ≡ k) us u (b .sized) lu,
+      )
 
   -- the text with a shortest row is the text of the windows with one more
   pub built-more : (number : K → ℕ) (o : Option (List K)) (ws : List (List K)) (t w r : List K) → Built m k o ws t → length w ≡ k → Pass m w → Least number (Serves m t w) r
       → Built m k (Some w) (ws ++ w ∷ []) (t ++ r)
   built-more number o ws t w r b l pw least =
       let f = least .0 in
-      let p = placed o ws t w r b l f in
-      (ws, refl, record {
-        passes = f .1;
-        whole = l;
-        front = f .2 .0;
-        ends = f .2 .1;
-        before = p .0;
-        sized = p .1;
-        low = λ s q ps aw i.
-            let g = row-from o ws t w s q b l pw ps aw i in
-            omega (arith, length-append t r, least-short number (Serves m t w) r (g .0) least (g .1), g .2);
-      })
+      let p = placed o ws t w r b l f in (
+        ws,
+        refl,
+        record {
+          passes = f .1;
+          whole = l;
+          front = f .2 .0;
+          ends = f .2 .1;
+          before = p .0;
+          sized = p .1;
+          low = λ s q ps aw i.
+              let g = row-from o ws t w s q b l pw ps aw i in
+              omega (arith, length-append t r, least-short number (Serves m t w) r (g .0) least (g .1), g .2);
+        },
+      )
 
   pub shortest : (o : Option (List K)) (ws : List (List K)) (t : List K) → Built m k o ws t → Rival m ws t × ((s : List K) → Rival m ws s → length t ≤ length s)
   shortest None ws t (e, f) = ((rw f refl, rw e tt), λ s c. simp f (omega arith))
   shortest (Some w) ws t (us, e, b) =
       let lw : length w ≡ k = b .whole in
-      let here : At w (length (b .front)) t = rw (b .ends) (rw append-nil at (at-put (b .front) w [])) in
-      ((b .passes, rw e (rises-push t 0 (length (b .front)) us w (omega arith) (b .before) here)),
+      let here : At w (length (b .front)) t = rw (b .ends) (rw append-nil at (at-put (b .front) w [])) in (
+        (b .passes, rw e (rises-push t 0 (length (b .front)) us w (omega arith) (b .before) here)),
         λ s c.
             let g = rises-last s 0 us w (subst (λ v. Has v s) e (c .1)) in
-            omega (arith, b .low s (g .0) (c .0) (g .3) (g .2), at-fits w s (g .0) (omega arith) (g .3)))
+            omega (arith, b .low s (g .0) (c .0) (g .3) (g .2), at-fits w s (g .0) (omega arith) (g .3)),
+      )
 
   module _ (number : K → ℕ) (row : List K → List K → Option (List K)) (rows : Rows m number k row) where
     meet : (ws : List (List K)) (t u w : List K) → Built m k (Some u) ws t → length w ≡ k → Pass m w → Meet m k t u w

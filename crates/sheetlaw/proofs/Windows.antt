@@ -51,11 +51,13 @@ module _ {K : Type 0} where
       ⊎ (((ys : List K) → run-on ys es ≡ since es) × (length (since es) ≤ length (letters es)) × (length (letters es) < length es))
   gapless [] = inl (λ ys. sym (append-nil ys), refl)
   gapless (Letter x ∷ es) = elim (gapless es) [
-      inl h ↦ inl (λ ys. h .0 (ys ++ x ∷ []) ∙ append-assoc ys (x ∷ []) (letters es), omega (arith, h .1))
-    | inr h ↦ inr (λ ys. h .0 (ys ++ x ∷ []) ∙ sym (h .0 (x ∷ [])), rw (h .0 (x ∷ [])) (omega (arith, h .1)), omega (arith, h .2)) ]
+    | inl h ↦ inl (λ ys. h .0 (ys ++ x ∷ []) ∙ append-assoc ys (x ∷ []) (letters es), omega (arith, h .1))
+    | inr h ↦ inr (λ ys. h .0 (ys ++ x ∷ []) ∙ sym (h .0 (x ∷ [])), rw (h .0 (x ∷ [])) (omega (arith, h .1)), omega (arith, h .2))
+  ]
   gapless (Gap ∷ es) = elim (gapless es) [
-      inl h ↦ inr (λ ys. refl, rw (h .0 []) (omega arith), omega (arith, h .1))
-    | inr h ↦ inr (λ ys. refl, h .1, omega (arith, h .2)) ]
+    | inl h ↦ inr (λ ys. refl, rw (h .0 []) (omega arith), omega (arith, h .1))
+    | inr h ↦ inr (λ ys. refl, h .1, omega (arith, h .2))
+  ]
 
   whole-none : (k : ℕ) (es : List (Event K)) → length (letters es) < k → whole k es ≡ []
   whole-none k es l = let e : eqb (length (letters es)) k ≡ false = ne-eqb (length (letters es)) k (λ q. omega arith) in rw e
@@ -84,30 +86,33 @@ module _ {K : Type 0} where
   -- k letters at most
   whole-ending : (k : ℕ) (es : List (Event K)) → length (letters es) ≤ k → whole k es ≡ ending k (letters es)
   whole-ending k es l = elim (cases-lt (length (letters es)) k) [
-      inl h ↦ whole-none k es h ∙ sym (ending-none k (letters es) h)
+    | inl h ↦ whole-none k es h ∙ sym (ending-none k (letters es) h)
     | inr h ↦ (
         let e : eqb (length (letters es)) k ≡ true = eq-eqb (length (letters es)) k (omega arith) in
         let z : length (letters es) - k ≡ 0 = omega arith in
         let o : ending k (letters es) ≡ letters es ∷ [] = ending-one k (letters es) h ∙ ap (λ n. drop n (letters es) ∷ []) z in
-        rw (e, o)) ]
+        rw (e, o))
+  ]
 
   -- what stands before k letters and gaps does not count for the window that ends with x
   same-ending : (k : ℕ) (e : Event K) (es : List (Event K)) (x : K) → k ≤ suc (length es) → ending k (since es ++ x ∷ []) ≡ ending k (since (e ∷ es) ++ x ∷ [])
   same-ending k Gap es x l = refl
   same-ending k (Letter y) es x l = elim (gapless es) [
-      inl h ↦ (
+    | inl h ↦ (
         let f : k ≤ length (letters es ++ x ∷ []) = simp length-push (omega (arith, h .1)) in
         ap (λ ys. ending k (ys ++ x ∷ [])) (h .0 []) ∙ sym (ending-more k y (letters es ++ x ∷ []) f) ∙ ap (λ ys. ending k (ys ++ x ∷ [])) (sym (h .0 (y ∷ []))))
-    | inr h ↦ ap (λ ys. ending k (ys ++ x ∷ [])) (sym (h .0 (y ∷ []))) ]
+    | inr h ↦ ap (λ ys. ending k (ys ++ x ∷ [])) (sym (h .0 (y ∷ [])))
+  ]
 
   -- fewer than k letters and gaps
   few-ending : (k : ℕ) (es : List (Event K)) (x : K) → length es < k → ending k (letters es ++ x ∷ []) ≡ ending k (since es ++ x ∷ [])
   few-ending k es x l = elim (gapless es) [
-      inl h ↦ ap (λ ys. ending k (ys ++ x ∷ [])) (sym (h .0 []))
+    | inl h ↦ ap (λ ys. ending k (ys ++ x ∷ [])) (sym (h .0 []))
     | inr h ↦ (
         let f : length (letters es ++ x ∷ []) < k = simp length-push (omega (arith, h .2)) in
         let g : length (since es ++ x ∷ []) < k = simp length-push (omega (arith, h .1, h .2)) in
-        ending-none k (letters es ++ x ∷ []) f ∙ sym (ending-none k (since es ++ x ∷ []) g)) ]
+        ending-none k (letters es ++ x ∷ []) f ∙ sym (ending-none k (since es ++ x ∷ []) g))
+  ]
 
   -- one letter more: the window that it ends comes last
   pub windows-letter : (k : ℕ) → 1 ≤ k → (es : List (Event K)) (x : K) → windows k (es ++ Letter x ∷ []) ≡ windows k es ++ ending k (since es ++ x ∷ [])
@@ -115,7 +120,7 @@ module _ {K : Type 0} where
       let t : take k (Letter x ∷ []) ≡ Letter x ∷ [] = take-all k (Letter x ∷ []) o in
       append-nil (whole k (take k (Letter x ∷ []))) ∙ ap (whole k) t ∙ whole-ending k (Letter x ∷ []) o
   windows-letter k o (e ∷ es) x = elim (cases-lt (suc (length es)) k) [
-      inl h ↦ (
+    | inl h ↦ (
         let few = letters-few (e ∷ es) in
         let many : length (letters (es ++ Letter x ∷ [])) ≤ length es + 1 = (let f = letters-few (es ++ Letter x ∷ []) in let g = length-push es (Letter x) in omega arith) in
         let all : length (letters (e ∷ (es ++ Letter x ∷ []))) ≤ k = (let f = letters-few (e ∷ (es ++ Letter x ∷ [])) in let g = length-push es (Letter x) in omega arith) in
@@ -128,14 +133,16 @@ module _ {K : Type 0} where
     | inr h ↦ (
         ap (λ r. whole k r ++ windows k (es ++ Letter x ∷ [])) (take-append-le k (e ∷ es) (Letter x ∷ []) h)
         ∙ ap (λ r. whole k (take k (e ∷ es)) ++ r) (windows-letter k o es x ∙ ap (λ r. windows k es ++ r) (same-ending k e es x h))
-        ∙ sym (append-assoc (whole k (take k (e ∷ es))) (windows k es) (ending k (since (e ∷ es) ++ x ∷ [])))) ]
+        ∙ sym (append-assoc (whole k (take k (e ∷ es))) (windows k es) (ending k (since (e ∷ es) ++ x ∷ []))))
+  ]
 
   -- a gap ends no window
   pub windows-gap : (k : ℕ) → 1 ≤ k → (es : List (Event K)) → windows k (es ++ Gap ∷ []) ≡ windows k es
   windows-gap k o [] = windows-none k (Gap ∷ []) o
   windows-gap k o (e ∷ es) = elim (cases-lt (suc (length es)) k) [
-      inl h ↦ (
+    | inl h ↦ (
         let few = letters-few (e ∷ es) in
         let all : length (letters ((e ∷ es) ++ Gap ∷ [])) < k = (let f = ap length (letters-append (e ∷ es) (Gap ∷ []) ∙ append-nil (letters (e ∷ es))) in omega arith) in
         windows-none k ((e ∷ es) ++ Gap ∷ []) all ∙ sym (windows-none k (e ∷ es) (omega arith)))
-    | inr h ↦ ap (λ r. whole k r ++ windows k (es ++ Gap ∷ [])) (take-append-le k (e ∷ es) (Gap ∷ []) h) ∙ ap (λ r. whole k (take k (e ∷ es)) ++ r) (windows-gap k o es) ]
+    | inr h ↦ ap (λ r. whole k r ++ windows k (es ++ Gap ∷ [])) (take-append-le k (e ∷ es) (Gap ∷ []) h) ∙ ap (λ r. whole k (take k (e ∷ es)) ++ r) (windows-gap k o es)
+  ]

@@ -97,9 +97,9 @@ module _ {K : Type 0} (m : Model K) (k : ℕ) (row : List K → List K → Optio
       (refuse-if (leb 50000 (s .taken)) full-sheet
       (cond (ltb (length w) k) (Ok wait)
       (cond (passes m w) (
-        refuse-none (row-to row (s .latest) w) (no-string (s .taken)) (λ r.
-        refuse-if (ltb room (s .counts .text + length r)) (short-text (s .counts .text + length r))
-        (Ok (keep w r))))
+      refuse-none (row-to row (s .latest) w) (no-string (s .taken)) (λ r.
+      refuse-if (ltb room (s .counts .text + length r)) (short-text (s .counts .text + length r))
+      (Ok (keep w r))))
       (Ok skip))))
 
 -- Carrying it out
