@@ -1,4 +1,4 @@
--- The law of a sheet holds, and each call takes it to the longer list of calls. Assumes nothing.
+-- The law of a sheet holds. Assumes nothing.
 use mathlib.Core.Path.{_≡_, refl, sym, ap, _∙_, subst}
 use mathlib.Core.Bool.{Bool, true, false, cond, _||_}
 use mathlib.Core.List.{List, [], _∷_, _++_, append-nil}
@@ -21,30 +21,21 @@ use Rattle.sheetlaw.specs.Rivals.{Rival}
 use Rattle.sheetlaw.specs.Rows.{Serves, Rows}
 use Rattle.sheetlaw.specs.Calls.{Turn, letter, gap, adds, taken, appended, filled, since, kept, tally}
 use Rattle.sheetlaw.specs.Step.{Contents, Outcome, wait, skip, keep, opening, opened, window, needs, row-to, decide, pauses, said, if-taken, carry, append, pause, write, cleared, answers, leaves, writes, leaves-gap, close}
-use Rattle.sheetlaw.specs.Runs.{after, Exact, turn, turns}
+use Rattle.sheetlaw.specs.Runs.{after, Exact}
 use Rattle.sheetlaw.specs.Law.{text, Refused, Ends-window, Latest, Refusals, Followed, Sheet-law}
 use Rattle.sheetlaw.specs.declared.Event.{Event}
 use Rattle.sheetlaw.specs.declared.Event.the-variants.{Letter, Gap}
 use Rattle.sheetlaw.specs.declared.Answer.{Answer}
 use Rattle.sheetlaw.specs.declared.Answer.the-variants.{Pending, Skipped, Kept}
+use Rattle.sheetlaw.proofs.Openings.{Fits, opening-fits}
 use Rattle.sheetlaw.proofs.Texts.{Built, built-more, shortest, row-least, no-rival, row-shortest}
 use Rattle.sheetlaw.proofs.Decisions.{Free, Whole, Row, Decided, decided, Paused, paused-so}
 use Rattle.sheetlaw.proofs.Sheets.{Holds, holds-gap, window-is, window-size, holds-wait, holds-skip, holds-keep, take-write}
 
--- what an opening that is not refused shows
-pub record Fits {K : Type 0} (m : Model K) (k : ℕ) : Type 0 where
-  pub some : 2 ≤ k
-  pub few : k ≤ 12
-  pub recalls : m .memory ≤ k
+module _ {K : Type 0} (m : Model K) (number : K → ℕ) (k : ℕ) (row : List K → List K → Option (List K)) (laws : Lawful m) (opens : opening m k ≡ Ok opened) (rows : Rows m number k row) (t0 : List K) where
+  fits : Fits m k
+  fits = opening-fits m k opens
 
-pub opening-fits : {K : Type 0} (m : Model K) (k : ℕ) → opening m k ≡ Ok opened → Fits m k
-opening-fits {K} m k =
-    cond-both (ltb k 2 || ltb 12 k) _ _ (λ (r : Result (Contents K) Fault). r ≡ Ok opened → Fits m k) (λ _ e. absurd (let z : _≡_ {A = ℕ} 0 1 = cc in omega arith)) (λ b.
-    cond-both (ltb k (m .memory)) _ _ (λ (r : Result (Contents K) Fault). r ≡ Ok opened → Fits m k) (λ _ e. absurd (let z : _≡_ {A = ℕ} 0 1 = cc in omega arith)) (λ c _.
-    let p = or-parts (ltb k 2) (ltb 12 k) b in
-    record { some = ltb-false k 2 (p .0); few = ltb-false 12 k (p .1); recalls = ltb-false k (m .memory) c }))
-
-module _ {K : Type 0} (m : Model K) (number : K → ℕ) (k : ℕ) (row : List K → List K → Option (List K)) (laws : Lawful m) (fits : Fits m k) (rows : Rows m number k row) (t0 : List K) where
   one : 1 ≤ k
   one = omega (arith, fits .some)
 
@@ -172,6 +163,7 @@ module _ {K : Type 0} (m : Model K) (number : K → ℕ) (k : ℕ) (row : List K
       let f = filled h in
       let holds : Holds m k t0 es n f s t = holds-after h e in
       record {
+        opens = opens;
         exact = e;
         sheet = refl;
         table = refl;
@@ -195,37 +187,5 @@ module _ {K : Type 0} (m : Model K) (number : K → ℕ) (k : ℕ) (row : List K
         closed = holds .counts;
       }
 
-  moved : (h : List (Turn K)) (s s′ : Contents K) (t t′ : List K) → s′ ≡ s → t′ ≡ t → Followed m number k row t0 h s t → Followed m number k row t0 h s′ t′
-  moved h s s′ t t′ e q i = subst (λ v. Followed m number k row t0 h v t′) (sym e) (subst (λ v. Followed m number k row t0 h s v) (sym q) i)
-
-  -- at the opening
-  pub followed-opened : Followed m number k row t0 [] opened t0
-  followed-opened = followed [] tt
-
-  module _ (h : List (Turn K)) (s : Contents K) (t : List K) (past : Followed m number k row t0 h s t) where
-    -- one letter more
-    pub followed-letter : (x : K) (work left : List ℕ) (r : Result Answer Fault) (s′ : Contents K) (t′ : List K)
-        → r ≡ answers m k row (length work) (length t) s x → left ≡ cleared (needs m) work → s′ ≡ leaves m k row (length work) (length t) s x → t′ ≡ writes m k row (length work) s x t
-        → Followed m number k row t0 (letter x work r left ∷ h) s′ t′
-    followed-letter x work left r s′ t′ a c e q =
-        let u = after m k row t0 h in
-        let at : (F : Contents K → List K → Type 0) → F s t → F (u .0) (u .1) = λ F y. subst (λ v. F v (u .1)) (past .sheet) (subst (F s) (past .table) y) in
-        moved (letter x work r left ∷ h) _ s′ _ t′
-        (at (λ v w. s′ ≡ leaves m k row (length work) (length w) v x) e)
-        (at (λ v w. t′ ≡ writes m k row (length work) v x w) q)
-        (followed (letter x work r left ∷ h) (past .exact, at (λ v w. r ≡ answers m k row (length work) (length w) v x) a, c))
-
-    -- one gap more
-    pub followed-gap : (r : Result (Unit {0}) Fault) (s′ : Contents K) → r ≡ pauses s → s′ ≡ leaves-gap s → Followed m number k row t0 (gap r ∷ h) s′ t
-    followed-gap r s′ a e =
-        moved (gap r ∷ h) _ s′ _ t (e ∙ ap leaves-gap (past .sheet)) (past .table)
-        (followed (gap r ∷ h) (past .exact, a ∙ ap pauses (past .sheet)))
-
 pub sheet-law : {K : Type 0} (m : Model K) (number : K → ℕ) (k : ℕ) (row : List K → List K → Option (List K)) (t0 : List K) → Sheet-law m number k row t0
-sheet-law m number k row t0 laws opens rows = followed m number k row laws (opening-fits m k opens) rows t0
-
--- the definitions give an exact list of calls for every list of letters and gaps, whatever work tables they bring
-pub turns-exact : {K : Type 0} (m : Model K) (k : ℕ) (row : List K → List K → Option (List K)) (t0 : List K) (h : List (Turn K)) (es : List (Event K × List ℕ)) → Exact m k row t0 h → Exact m k row t0 (turns m k row t0 h es)
-turns-exact m k row t0 h [] e = e
-turns-exact m k row t0 h ((Letter x, work) ∷ es) e = turns-exact m k row t0 (turn m k row t0 h (Letter x, work) ∷ h) es (e, refl, refl)
-turns-exact m k row t0 h ((Gap, work) ∷ es) e = turns-exact m k row t0 (turn m k row t0 h (Gap, work) ∷ h) es (e, refl)
+sheet-law m number k row t0 laws opens rows = followed m number k row laws opens rows t0

@@ -3,6 +3,8 @@ pub mod Places
 pub mod Texts
 pub mod Windows
 pub mod Decisions
+pub mod Openings
 pub mod Sheets
 pub mod Laws
+pub mod Steps
 pub mod Examples

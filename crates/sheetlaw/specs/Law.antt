@@ -60,6 +60,8 @@ pub record Refusals {K : Type 0} (m : Model K) (ws : List (List K)) (w : List K)
 
 module _ {K : Type 0} (m : Model K) (number : K → ℕ) (k : ℕ) (row : List K → List K → Option (List K)) (t0 : List K) where
   pub record Followed (h : List (Turn K)) (s : Contents K) (t : List K) : Type 0 where
+    -- the sheet was opened without refusal
+    pub opens : opening m k ≡ Ok opened
     -- each call has answered, and left in its work table, the sheet and the text table, exactly what the definitions of a
     -- call give for the opening and the calls up to it
     pub exact : Exact m k row t0 h
