@@ -3,6 +3,7 @@ pub mod Places
 pub mod Texts
 pub mod Windows
 pub mod Decisions
+pub mod Cases
 pub mod Openings
 pub mod Sheets
 pub mod Laws
