@@ -2,13 +2,15 @@
 --
 --   Turn K           a call and its answer: a letter, with what its work table held before and after, or a gap.
 --                    A list of turns has the latest first
+--   Added K          letters and gaps taken, and how many letters are appended and how many of these filled in
 --   adds c           what a call adds: itself to what is taken, letters to the text; nothing if it is refused
 --   taken h          the letters and gaps taken, the refused ones struck, in the order of time
 --   appended h       the letters that the kept answers appended together
 --   filled h         the letters that they filled in together
---   letters es       the letters among them, without the gaps
---   since es         the letters taken since the opening or the last gap
+--   letters es       the letters among the letters and gaps es
+--   since es         the letters of es since the opening or the last gap
 --   windows k es     every k neighbouring letters, no gap among them, in order
+--   passes m w       whether the letters w pass alone
 --   kept m k es      those of the windows that pass alone
 --   skipped m k es   those that do not
 --   tally m k h      the five counts of the calls
@@ -30,8 +32,8 @@ use Rattle.sheetlaw.specs.declared.Answer.the-variants.{Pending, Skipped, Kept
 use Rattle.sheetlaw.specs.declared.Counts.{Counts}
 
 pub data Turn (K : Type 0) : Type 0 where
-  letter : K → List ℕ → Result Answer Fault → List ℕ → Turn K
-  gap : Result (Unit {0}) Fault → Turn K
+  letter : (x : K) (work : List ℕ) (answer : Result Answer Fault) (left : List ℕ) → Turn K
+  gap : (answer : Result (Unit {0}) Fault) → Turn K
 
 pub record Added (K : Type 0) : Type 0 where
   pub events : List (Event K)
@@ -64,7 +66,7 @@ module _ {K : Type 0} where
   letters (Letter x ∷ es) = x ∷ letters es
   letters (Gap ∷ es) = letters es
 
-  -- with the letters xs before them
+  -- the same, with the letters xs before es
   abbrev pub run-on : List K → List (Event K) → List K
   run-on xs [] = xs
   run-on xs (Letter x ∷ es) = run-on (xs ++ x ∷ []) es
@@ -81,7 +83,6 @@ module _ {K : Type 0} where
   windows k [] = []
   windows k (e ∷ es) = whole k (take k (e ∷ es)) ++ windows k es
 
-  -- whether w passes alone
   abbrev pub passes : Model K → List K → Bool
   passes m w = isSome (run m w)
 

@@ -9,6 +9,7 @@
 --   Shortest P s           s is one of the strings with P, and none of them has fewer letters
 --   Refused n r            the answer r is a refusal with the number n
 --   Ends-window k h x w    the next letter x ends the window w
+--   Latest ws o            o is the last of the kept windows ws, or None where there is none
 --   Refusals m ws w n r    r refuses a letter that ends the window w, after the kept windows ws, exactly as it must on a
 --                          text table of n letters
 --   Followed .. h s t      what holds after the calls h
@@ -47,7 +48,6 @@ Refused n (Err f) = f .number ≡ n
 abbrev pub Ends-window : {K : Type 0} → ℕ → List (Turn K) → K → List K → Type 0
 Ends-window k h x w = (k ≤ length (since (taken h) ++ x ∷ [])) × (w ≡ last k (since (taken h) ++ x ∷ []))
 
--- the last kept window, if one is kept
 abbrev pub Latest : {K : Type 0} → List (List K) → Option (List K) → Type 0
 Latest ws None = ws ≡ []
 Latest ws (Some w) = Ends (w ∷ []) ws

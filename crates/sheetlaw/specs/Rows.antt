@@ -1,6 +1,7 @@
 -- The row of letters that a sheet appends to its text for a window. Assumes nothing.
 --
 --   Serves m t w r         after the row r, of at least one letter, the text t passes and ends with the window w
+--   Meet m k t u w         the passing text t ends with the window u of k letters, and w is a passing window of k letters
 --   Rows m number k row    row u w is the row that every text which ends with the window u is given for the window w: the
 --                          shortest that serves, among equals the first in letter order, or None where none serves
 use mathlib.Core.Path.{_≡_}
@@ -15,7 +16,6 @@ use Rattle.models.specs.Strings.{Ends, Least}
 abbrev pub Serves : {K : Type 0} → Model K → List K → List K → List K → Type 0
 Serves m t w r = (1 ≤ length r) × Pass m (t ++ r) × Ends w (t ++ r)
 
--- u is a window that ends the passing text t, and w a window that passes
 pub record Meet {K : Type 0} (m : Model K) (k : ℕ) (t u w : List K) : Type 0 where
   pub left : length u ≡ k
   pub right : length w ≡ k
