@@ -3,6 +3,7 @@ use mathlib.Core.Path.{_≡_, refl, sym, ap, _∙_}
 use mathlib.Core.Bool.{Bool, true, false, cond}
 use mathlib.Core.List.{List}
 use Prim.Native.Nat.{ℕ, _+_, _<_, _≤_}
+use native.Mathlib.Omega.{arith}
 use lib.Dec.{ltb, leb}
 use lib.ListN.{length}
 use Rattle.std.proofs.shelf.Tests.{cond-true, cond-false, lt-ltb, le-ltb, le-leb, lt-leb}
@@ -58,6 +59,11 @@ module _ {K : Type 0} (m : Model K) (k : ℕ) (row : List K → List K → Optio
 
             pub decide-keep : s .counts .text + length r ≤ room → decide m k row work room s x ≡ Ok (keep (window k s x) r)
             decide-keep h = rowed (Some r) here ∙ cond-false (ltb room (s .counts .text + length r)) _ _ (le-ltb room (s .counts .text + length r) h)
+
+-- of the work table it counts only whether it is long enough
+pub decide-enough : {K : Type 0} (m : Model K) (k : ℕ) (row : List K → List K → Option (List K)) (work room : ℕ) (s : Contents K) (x : K) → needs m ≤ work
+    → decide m k row work room s x ≡ decide m k row (needs m) room s x
+decide-enough m k row work room s x h = worked m k row work room s x h _ ∙ sym (worked m k row (needs m) room s x (omega arith) _)
 
 module _ {K : Type 0} (s : Contents K) where
   pub pauses-full : 50000 ≤ s .taken → pauses s ≡ Err full-sheet
