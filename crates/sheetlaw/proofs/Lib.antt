@@ -1,0 +1,11 @@
+pub mod Passing
+pub mod Places
+pub mod Texts
+pub mod Windows
+pub mod Decisions
+pub mod Cases
+pub mod Openings
+pub mod Sheets
+pub mod Laws
+pub mod Steps
+pub mod Examples

@@ -1,0 +1,6 @@
+pub mod Rivals
+pub mod Rows
+pub mod Calls
+pub mod Step
+pub mod Runs
+pub mod Law
