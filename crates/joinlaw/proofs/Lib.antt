@@ -1,0 +1,4 @@
+pub mod Orders
+pub mod Listing
+pub mod Cycles
+pub mod Examples
