@@ -1,4 +1,9 @@
 pub mod Orders
 pub mod Listing
+pub mod Letters
 pub mod Cycles
+pub mod Paths
+pub mod Fillings
+pub mod Ends
+pub mod Overlaps
 pub mod Examples

@@ -3,6 +3,7 @@
 --   merges A m q u v o          the last o letters of u are the first o of v, and the rest of v can be walked from state q
 --   overlap A m q u v most      the largest o from 1 to most that merges, if there is one
 --   filling m fill q v          the first in letter order of the shortest strings over fill after which v can be walked from q
+--   Fills m fill q v z          z is a string over fill after which v can be walked from q
 --   Bridge                      an overlap, and the letters filled in before what is left of v
 --   bridge A m fill u v most    the overlap of at most so many letters if there is one, else no overlap and the filling
 --   row b v                     what a bridge appends to u
@@ -17,8 +18,8 @@ use Rattle.std.specs.Options.{isSome}
 use Rattle.std.specs.declared.option.Option.{Option}
 use Rattle.std.specs.declared.option.Option.the-variants.{Some, None}
 use Rattle.models.specs.Alphabet.{Alphabet}
-use Rattle.models.specs.Automaton.{Model, walk, run, last}
-use Rattle.joinlaw.specs.Words.{letters, words-below, first-that}
+use Rattle.models.specs.Automaton.{Model, walk, run, Passes, last}
+use Rattle.joinlaw.specs.Words.{letters, Over, words-below, first-that}
 
 -- the same letters, compared by number
 abbrev pub same : {K : Type 0} → (K → ℕ) → List K → List K → Bool
@@ -40,6 +41,9 @@ overlap A m q u v (suc o) = cond (merges A m q u v (suc o)) (Some (suc o)) (over
 
 unfoldable pub filling : {K : Type 0} → Model K → List K → ℕ → List K → Option (List K)
 filling m fill q v = first-that (λ z. serves m (z ++ v) q) (words-below fill (m .count))
+
+abbrev pub Fills : {K : Type 0} → Model K → List K → ℕ → List K → List K → Type 0
+Fills m fill q v z = Over fill z × Passes (m .next) q (z ++ v)
 
 pub record Bridge (K : Type 0) : Type 0 where
   pub overlap : ℕ
