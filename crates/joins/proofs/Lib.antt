@@ -1,0 +1,5 @@
+pub mod WordOrder
+pub mod FirstWord
+pub mod Pushes
+pub mod Turns
+pub mod Spellings
