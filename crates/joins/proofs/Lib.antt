@@ -3,3 +3,5 @@ pub mod FirstWord
 pub mod Pushes
 pub mod Turns
 pub mod Spellings
+pub mod Expansions
+pub mod Explorations

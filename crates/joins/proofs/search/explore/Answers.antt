@@ -1,0 +1,29 @@
+use mathlib.Core.Path.{_≡_, sym, ap, _∙_}
+use mathlib.Core.Bool.{true, false}
+use Prim.Native.Nat.{ℕ, _+_, _<_, _≤_, _^_}
+use native.Mathlib.Omega.{arith}
+use borrow.Author.Needs.{needs}
+use lib.ListN.{length, replicate}
+use Rattle.std.proofs.shelf.Lists.{length-replicate}
+use Rattle.joins.proofs.Explorations.{Exploring, exploring-start, paused-first, exploring-turn, exploring-found, exploring-none}
+use Rattle.joins.proofs.search.explore.Needs as need
+
+pub index-seen-start : need.index-seen-start
+index-seen-start g c =
+    let n = g .S·Automaton .model (c .args .automaton .now) .count in
+    let long : length (c .args .seen .now) ≡ n = ap length (c .pre .unmarked) ∙ length-replicate n 0 in
+    let lt = c .pre .among in
+    omega arith
+
+pub loop-head-holds : need.loop-head-holds
+loop-head-holds g c =
+    exploring-start _ _ _ (c .args .start) (c .args .seen .now) (c .args .queue .now) (c .args .parents .now) (c .args .letters .now)
+    (c .pre .among) (c .pre .unmarked) (c .pre .long .0) (c .pre .long .1 .0) (c .pre .long .1 .1)
+
+pub add-head : need.add-head
+add-head g c =
+    let few = g .S·Automaton .lawful (c .args .automaton .now) .few in
+    let x = c .loop-head .inv in
+    let most = x .most in
+    let lt = c .loop-head-test .taken in
+    omega arith
