@@ -2,8 +2,8 @@ use mathlib.Core.Path.{_≡_, sym, ap, _∙_}
 use mathlib.Core.Bool.{true, false}
 use Prim.Native.Nat.{ℕ, _+_, _<_, _≤_, _^_}
 use native.Mathlib.Omega.{arith}
-use borrow.Author.Needs.{needs}
 use lib.ListN.{length, replicate}
+use Rattle.std.specs.Options.{isSome}
 use Rattle.std.proofs.shelf.Lists.{length-replicate}
 use Rattle.joins.proofs.Explorations.{Exploring, exploring-start, paused-first, exploring-turn, exploring-found, exploring-none}
 use Rattle.joins.proofs.search.explore.Needs as need
@@ -27,3 +27,28 @@ add-head g c =
     let most = x .most in
     let lt = c .loop-head-test .taken in
     omega arith
+
+pub expand-tail-requires : need.expand-tail-requires
+expand-tail-requires g c κs =
+    let x = c .loop-head .inv in
+    record {
+      long = (x .long-seen, (x .long-queue, (x .long-parents, x .long-letters)));
+      here = c .loop-head-test .taken;
+      paused = paused-first _ _ _ _ _ _ _ _ _ _ x;
+    }
+
+pub loop-head-again : need.loop-head-again
+loop-head-again g c =
+    let e = c .expand-tail .ensures in
+    let k = c .expand-tail .kept in
+    exploring-turn _ _ _ _ _ _ _ _ _ _ (c .loop-head .inv) _ _ _ _ _ (c .loop-head-test .taken)
+    (ap isSome (sym (c .walk .ensures)) ∙ sym (c .is-some .ensures) ∙ c .if-is-some .left)
+    (e .paused) (e .kept) (k .seen) (k .queue) (k .parents) (k .letters)
+
+pub returns-then-is-some : need.returns-then-is-some
+returns-then-is-some g c =
+    exploring-found _ _ _ _ _ _ _ _ _ _ (c .loop-head .inv) (c .loop-head-test .taken)
+    (ap isSome (sym (c .walk .ensures)) ∙ sym (c .is-some .ensures) ∙ c .if-is-some .taken)
+
+pub returns : need.returns
+returns g c = exploring-none _ _ _ _ _ _ _ _ _ _ (c .loop-head .inv) (c .loop-head-test .left)
