@@ -5,3 +5,4 @@ pub mod Turns
 pub mod Spellings
 pub mod Expansions
 pub mod Explorations
+pub mod Traces

@@ -1,2 +1,3 @@
 // Joins: the shortest passing string between two contexts, and the row that brings a text to its next window.
 mod search;
+mod spell;

@@ -1,0 +1,78 @@
+-- The steps back along the parents. Assumes nothing.
+use mathlib.Core.Path.{_≡_, refl, sym, ap, subst, _∙_}
+use mathlib.Core.List.{List, [], _∷_, _++_}
+use Prim.Native.Nat.{ℕ, zero, suc, _+_, _-_, _<_, _≤_}
+use native.Mathlib.Omega.{arith}
+use lib.ListN.{length, getD, set, drop}
+use Rattle.std.specs.declared.option.Option.{Option}
+use Rattle.std.specs.declared.option.Option.the-variants.{Some, None}
+use Rattle.std.proofs.shelf.Lists.{append-assoc, append-nil, length-push, length-set, drop-set, drop-all}
+use Rattle.models.specs.Alphabet.{Alphabet, Numbered, Bears}
+use Rattle.joinlaw.specs.Words.{listed}
+use Rattle.joins.specs.Queue.{by}
+use Rattle.joins.specs.Spelling.{numbers, spelled, spelling, Traced}
+use Rattle.joins.proofs.FirstWord.{numbers-more}
+
+module _ (p l : ℕ → ℕ) (place : ℕ) (earlier : (i : ℕ) → 0 < i → i ≤ place → p i < i) where
+  -- a step to the parent is a letter fewer
+  pub length-numbers : (at : ℕ) → 0 < at → at ≤ place → length (numbers p l at) ≡ length (numbers p l (p at)) + 1
+  length-numbers at some le =
+      ap length (numbers-more p l (suc place) (λ i pos lt. earlier i pos (omega arith)) at some (omega arith)) ∙ length-push (numbers p l (p at)) (l at)
+
+spelled-append : {K : Type 0} (A : Alphabet K) (cs ds : List ℕ) → spelled A (cs ++ ds) ≡ spelled A cs ++ spelled A ds
+spelled-append A [] ds = refl
+spelled-append A (c ∷ cs) ds = ap (λ w. listed (A .letter c) ++ w) (spelled-append A cs ds) ∙ sym (append-assoc (listed (A .letter c)) (spelled A cs) (spelled A ds))
+
+-- what is written so far comes after the letters that lead to the place at
+pub record Spelled {K : Type 0} (A : Alphabet K) (p l : ℕ → ℕ) (place at left : ℕ) (out : List K) : Type 0 where
+  pub within : at ≤ place
+  pub left-is : left ≡ length (numbers p l at)
+  pub fits : left ≤ length out
+  pub whole : spelling A p l place ≡ spelling A p l at ++ drop left out
+
+module _ {K : Type 0} (A : Alphabet K) (p l : ℕ → ℕ) (place : ℕ) (traced : Traced A p l place) where
+  spelling-more : (at : ℕ) (x : K) → 0 < at → at ≤ place → A .letter (l at) ≡ Some x → spelling A p l at ≡ spelling A p l (p at) ++ (x ∷ [])
+  spelling-more at x some le e =
+      ap (spelled A) (numbers-more p l (suc place) (λ i pos lt. traced .earlier i pos (omega arith)) at some (omega arith))
+      ∙ spelled-append A (numbers p l (p at)) (l at ∷ [])
+      ∙ ap (λ o. spelling A p l (p at) ++ (listed o ++ [])) e
+
+  pub spelled-turn : (at left : ℕ) (out : List K) (x : K) → Spelled A p l place at left out → 0 < at → A .letter (l at) ≡ Some x → Spelled A p l place (p at) (left - 1) (set out (left - 1) x)
+  spelled-turn at left out x s some e =
+      let le = s .within in
+      let is = s .left-is in
+      let fits = s .fits in
+      let lower = traced .earlier at some le in
+      let n = length-numbers p l place (traced .earlier) at some le in
+      let k = length-set out (left - 1) x in
+      let one : left - 1 + 1 ≡ left = omega arith in
+      record {
+        within = omega arith;
+        left-is = omega arith;
+        fits = omega arith;
+        whole = s .whole
+            ∙ ap (λ w. w ++ drop left out) (spelling-more at x some le e)
+            ∙ append-assoc (spelling A p l (p at)) (x ∷ []) (drop left out)
+            ∙ ap (λ w. spelling A p l (p at) ++ w) (ap (λ i. x ∷ drop i out) (sym one) ∙ sym (drop-set out (left - 1) x (omega arith)));
+      }
+
+  pub spelled-start : (out : List K) → length out ≡ length (numbers p l place) → Spelled A p l place place (length out) out
+  spelled-start out e = record {
+    within = omega arith;
+    left-is = e;
+    fits = omega arith;
+    whole = sym (ap (λ w. spelling A p l place ++ w) (drop-all (length out) out (omega arith)) ∙ append-nil (spelling A p l place));
+  }
+
+  pub spelled-some : (at left : ℕ) (out : List K) → Spelled A p l place at left out → 0 < at → 1 ≤ left
+  spelled-some at left out s some = let is = s .left-is in let n = length-numbers p l place (traced .earlier) at some (s .within) in omega arith
+
+  pub spelled-end : (at left : ℕ) (out : List K) → Spelled A p l place at left out → at ≤ 0 → out ≡ spelling A p l place
+  spelled-end at left out s none =
+      let at-first : at ≡ 0 = omega arith in
+      let left-none : left ≡ 0 = s .left-is ∙ ap (λ i. length (numbers p l i)) at-first in
+      sym (s .whole ∙ ap (λ i. spelling A p l i ++ drop left out) at-first ∙ ap (λ i. drop i out) left-none)
+
+  -- a letter of the alphabet is there
+  pub letter-some : Numbered A → (at : ℕ) → 0 < at → at ≤ place → A .letter (l at) ≡ None → ⊥
+  letter-some numbered at some le e = subst (Bears (A .number) (l at)) e (numbered .held (l at) (traced .letter at some le))
