@@ -6,3 +6,4 @@ pub mod Spellings
 pub mod Expansions
 pub mod Explorations
 pub mod Traces
+pub mod Merging
