@@ -7,3 +7,4 @@ pub mod Expansions
 pub mod Explorations
 pub mod Traces
 pub mod Merging
+pub mod Puts

@@ -1,2 +1,3 @@
 pub mod Queue
 pub mod Spelling
+pub mod Answers

@@ -1,0 +1,33 @@
+// The row that brings a text to the right context.
+ghost use mathlib.Core.Path.{_≡_};
+ghost use mathlib.Core.List.{[]};
+ghost use Prim.Native.Nat.{ℕ, _+_, _*_, _^_, _<_, _≤_};
+ghost use lib.ListN.{length};
+ghost use Rattle.joinlaw.specs.Words.{letters as allLetters};
+ghost use Rattle.joinlaw.specs.Bridges.{Bridge, filled as filledBy, filling, bridge};
+ghost use Rattle.joins.specs.Queue.{by};
+ghost use Rattle.joins.specs.Spelling.{numbers, spelling, Traced};
+ghost use Rattle.joins.specs.Answers.{put, put-text, appended, appended-text};
+use crate::answers::Joined;
+use crate::overlaps::overlap;
+use crate::search::explore;
+use crate::spell::depth;
+use crate::spell::spell;
+use automata::Automaton;
+use automata::walk;
+use faults::Fault;
+use letters::Letter;
+
+// Writes what an overlap leaves of `right` at the place `at`.
+fn put_rest<K: Letter>(right: &[K], shared: usize, text: &mut [K], at: usize) -> Result<Joined, Fault>
+    requires { ⌜ shared ≤ length (now right) ⌝ ∗ ⌜ at + length (now right) < 2 ^ 63 ⌝ }
+    ensures answer { λ r. ⌜ r ≡ put (record { overlap = shared; filling = [] }) (now (right .entry)) at (length (now (text .entry))) ⌝ }
+    ensures text { λ _. ⌜ now (text .exit) ≡ put-text (record { overlap = shared; filling = [] }) (now (right .entry)) at (now (text .entry)) ⌝ }
+{
+    let end = at + (right.len() - shared);
+    if end > text.len() {
+        return Err(Fault::short_text(end));
+    }
+    text[at..end].copy_from_slice(&right[shared..]);
+    Ok(Joined { length: end, overlap: shared, filled: 0 })
+}
