@@ -6,11 +6,11 @@ use native.Mathlib.Omega.{arith}
 use lib.ListN.{length, getD, set, drop}
 use Rattle.std.specs.declared.option.Option.{Option}
 use Rattle.std.specs.declared.option.Option.the-variants.{Some, None}
-use Rattle.std.proofs.shelf.Lists.{append-assoc, append-nil, length-push, length-set, drop-set, drop-all}
+use Rattle.std.proofs.shelf.Lists.{append-assoc, append-nil, length-append, length-push, length-set, drop-set, drop-all}
 use Rattle.models.specs.Alphabet.{Alphabet, Numbered, Bears}
 use Rattle.joinlaw.specs.Words.{listed}
 use Rattle.joins.specs.Queue.{by}
-use Rattle.joins.specs.Spelling.{numbers, spelled, spelling, Traced}
+use Rattle.joins.specs.Spelling.{numbers, numbers-by, spelled, spelling, Traced}
 use Rattle.joins.proofs.FirstWord.{numbers-more}
 
 module _ (p l : ℕ → ℕ) (place : ℕ) (earlier : (i : ℕ) → 0 < i → i ≤ place → p i < i) where
@@ -18,6 +18,15 @@ module _ (p l : ℕ → ℕ) (place : ℕ) (earlier : (i : ℕ) → 0 < i → i 
   pub length-numbers : (at : ℕ) → 0 < at → at ≤ place → length (numbers p l at) ≡ length (numbers p l (p at)) + 1
   length-numbers at some le =
       ap length (numbers-more p l (suc place) (λ i pos lt. earlier i pos (omega arith)) at some (omega arith)) ∙ length-push (numbers p l (p at)) (l at)
+
+-- a place is reached by at most as many letters as places stand before it
+numbers-by-few : (p l : ℕ → ℕ) (k i : ℕ) → length (numbers-by p l k i) ≤ k
+numbers-by-few p l zero i = omega arith
+numbers-by-few p l (suc k) zero = omega arith
+numbers-by-few p l (suc k) (suc i) = let n = length-push (numbers-by p l k (p (suc i))) (l (suc i)) in let h = numbers-by-few p l k (p (suc i)) in omega arith
+
+pub numbers-few : (p l : ℕ → ℕ) (i : ℕ) → length (numbers p l i) ≤ i
+numbers-few p l i = numbers-by-few p l i i
 
 spelled-append : {K : Type 0} (A : Alphabet K) (cs ds : List ℕ) → spelled A (cs ++ ds) ≡ spelled A cs ++ spelled A ds
 spelled-append A [] ds = refl
@@ -76,3 +85,21 @@ module _ {K : Type 0} (A : Alphabet K) (p l : ℕ → ℕ) (place : ℕ) (traced
   -- a letter of the alphabet is there
   pub letter-some : Numbered A → (at : ℕ) → 0 < at → at ≤ place → A .letter (l at) ≡ None → ⊥
   letter-some numbered at some le e = subst (Bears (A .number) (l at)) e (numbered .held (l at) (traced .letter at some le))
+
+  -- so there are as many letters as numbers
+  length-spelled-by : Numbered A → (k i : ℕ) → i ≤ k → i ≤ place → length (spelled A (numbers-by p l k i)) ≡ length (numbers-by p l k i)
+  length-spelled-by numbered zero i a b = refl
+  length-spelled-by numbered (suc k) zero a b = refl
+  length-spelled-by numbered (suc k) (suc i) a b =
+      let lower = traced .earlier (suc i) (omega arith) b in
+      let front = numbers-by p l k (p (suc i)) in
+      let r = length-spelled-by numbered k (p (suc i)) (omega arith) (omega arith) in
+      let n = length-push front (l (suc i)) in
+      let one : (o : Option K) → Bears (A .number) (l (suc i)) o → length (listed o ++ []) ≡ 1 = λ o. elim o as (λ o. Bears (A .number) (l (suc i)) o → length (listed o ++ []) ≡ 1) [ Some x ↦ λ h. refl | None ↦ λ h. absurd h ] in
+      let here = one (A .letter (l (suc i))) (numbered .held (l (suc i)) (traced .letter (suc i) (omega arith) b)) in
+      let e = ap length (spelled-append A front (l (suc i) ∷ [])) in
+      let m = length-append (spelled A front) (spelled A (l (suc i) ∷ [])) in
+      omega arith
+
+  pub length-spelling : Numbered A → length (spelling A p l place) ≡ length (numbers p l place)
+  length-spelling numbered = length-spelled-by numbered place place (omega arith) (omega arith)

@@ -31,3 +31,29 @@ fn put_rest<K: Letter>(right: &[K], shared: usize, text: &mut [K], at: usize) ->
     text[at..end].copy_from_slice(&right[shared..]);
     Ok(Joined { length: end, overlap: shared, filled: 0 })
 }
+
+// Writes the letters that lead to a place in the queue, and then `right`, at the place `at`.
+fn put_filling<K: Letter>(
+    parents: &[u16],
+    letters: &[u16],
+    place: u16,
+    right: &[K],
+    text: &mut [K],
+    at: usize,
+) -> Result<Joined, Fault>
+    requires within { ⌜ place < length (now parents) ⌝ ∗ ⌜ place < length (now letters) ⌝ }
+    requires traced { ⌜ Traced alphabet (by (now parents)) (by (now letters)) place ⌝ }
+    requires small { ⌜ at + length (now right) < 2 ^ 63 ⌝ }
+    ensures answer { λ r. ⌜ r ≡ put (record { overlap = 0; filling = spelling alphabet (by (now (parents .entry))) (by (now (letters .entry))) place }) (now (right .entry)) at (length (now (text .entry))) ⌝ }
+    ensures text { λ _. ⌜ now (text .exit) ≡ put-text (record { overlap = 0; filling = spelling alphabet (by (now (parents .entry))) (by (now (letters .entry))) place }) (now (right .entry)) at (now (text .entry)) ⌝ }
+{
+    let filled = depth(parents, place);
+    let middle = at + filled;
+    let end = middle + right.len();
+    if end > text.len() {
+        return Err(Fault::short_text(end));
+    }
+    spell(parents, letters, place, &mut text[at..middle]);
+    text[middle..end].copy_from_slice(right);
+    Ok(Joined { length: end, overlap: 0, filled })
+}
