@@ -6,6 +6,7 @@ pub mod Paths
 pub mod Fillings
 pub mod Ends
 pub mod Overlaps
+pub mod Bridging
 pub mod Rows
 pub mod Joins
 pub mod NextRows

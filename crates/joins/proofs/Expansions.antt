@@ -31,7 +31,7 @@ step-stays m lawful q t (Some x) e = lawful .stays q x t e
 step-stays m lawful q t None e = let z : _≡_ {A = ℕ} 0 1 = cc in absurd (omega arith)
 
 -- a step goes by a letter
-step-letter : {K : Type 0} (A : Alphabet K) → Numbered A → (m : Model K) (q c t : ℕ) → step-by A m q c ≡ Some t → c < A .size
+pub step-letter : {K : Type 0} (A : Alphabet K) → Numbered A → (m : Model K) (q c t : ℕ) → step-by A m q c ≡ Some t → c < A .size
 step-letter A numbered m q c t e = ⊎-elim
     (λ lt. lt)
     (λ ge.

@@ -5,6 +5,8 @@ pub mod Turns
 pub mod Spellings
 pub mod Expansions
 pub mod Explorations
-pub mod Traces
 pub mod Merging
 pub mod Puts
+pub mod Traces
+pub mod Stops
+pub mod Joinings

@@ -1,5 +1,6 @@
 -- The steps back along the parents. Assumes nothing.
 use mathlib.Core.Path.{_≡_, refl, sym, ap, subst, _∙_}
+use mathlib.Core.Bool.{Bool}
 use mathlib.Core.List.{List, [], _∷_, _++_}
 use Prim.Native.Nat.{ℕ, zero, suc, _+_, _-_, _<_, _≤_}
 use native.Mathlib.Omega.{arith}
@@ -8,10 +9,12 @@ use Rattle.std.specs.declared.option.Option.{Option}
 use Rattle.std.specs.declared.option.Option.the-variants.{Some, None}
 use Rattle.std.proofs.shelf.Lists.{append-assoc, append-nil, length-append, length-push, length-set, drop-set, drop-all}
 use Rattle.models.specs.Alphabet.{Alphabet, Numbered, Bears}
+use Rattle.models.specs.Automaton.{Model}
 use Rattle.joinlaw.specs.Words.{listed}
-use Rattle.joins.specs.Queue.{by}
+use Rattle.joins.specs.Queue.{step-by, Found}
 use Rattle.joins.specs.Spelling.{numbers, numbers-by, spelled, spelling, Traced}
 use Rattle.joins.proofs.FirstWord.{numbers-more}
+use Rattle.joins.proofs.Expansions.{step-letter}
 
 module _ (p l : ℕ → ℕ) (place : ℕ) (earlier : (i : ℕ) → 0 < i → i ≤ place → p i < i) where
   -- a step to the parent is a letter fewer
@@ -103,3 +106,12 @@ module _ {K : Type 0} (A : Alphabet K) (p l : ℕ → ℕ) (place : ℕ) (traced
 
   pub length-spelling : Numbered A → length (spelling A p l place) ≡ length (numbers p l place)
   length-spelling numbered = length-spelled-by numbered place place (omega arith) (omega arith)
+
+-- a search that has found a place has a trace of it
+pub found-traced : {K : Type 0} (A : Alphabet K) → Numbered A → (m : Model K) (goal : ℕ → Bool) (start : ℕ) (q p l : ℕ → ℕ) (head : ℕ) → Found (step-by A m) goal start q p l head → Traced A p l head
+found-traced A numbered m goal start q p l head found =
+    let lt = found .within in
+    record {
+      earlier = λ j some le. found .searched .parent j some (omega arith);
+      letter = λ j some le. step-letter A numbered m (q (p j)) (l j) (q j) (found .searched .goes j some (omega arith));
+    }

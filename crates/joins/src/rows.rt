@@ -57,3 +57,57 @@ fn put_filling<K: Letter>(
     text[middle..end].copy_from_slice(right);
     Ok(Joined { length: end, overlap: 0, filled })
 }
+
+// Appends the filling and `right`: the search, and what it finds written at the place `at`. `taken` is the place of the
+// refusal where no string exists.
+fn fill<S: Automaton>(
+    automaton: &S,
+    state: u16,
+    right: &[S::Kind],
+    text: &mut [S::Kind],
+    at: usize,
+    taken: usize,
+    words: &mut [u16],
+) -> Result<Joined, Fault>
+    requires among { ⌜ state < model (now automaton) .count ⌝ }
+    requires work { ⌜ length (now words) ≡ 4 * model (now automaton) .count ⌝ }
+    requires small { ⌜ at + length (now right) < 2 ^ 63 ⌝ }
+    ensures answer { λ r. ⌜ r ≡ appended (filledBy (filling (model (now (automaton .entry))) (allLetters (Kind·Letter .alphabet)) state (now (right .entry)))) (now (right .entry)) at (length (now (text .entry))) taken ⌝ }
+    ensures text { λ _. ⌜ now (text .exit) ≡ appended-text (filledBy (filling (model (now (automaton .entry))) (allLetters (Kind·Letter .alphabet)) state (now (right .entry)))) (now (right .entry)) at (now (text .entry)) ⌝ }
+{
+    let n = automaton.states() as usize;
+    let (seen, rest) = words.split_at_mut(n);
+    let (queue, rest) = rest.split_at_mut(n);
+    let (parents, letters) = rest.split_at_mut(n);
+    seen.fill(0);
+    match explore(automaton, state, right, seen, queue, parents, letters) {
+        Some(place) => put_filling(parents, letters, place, right, text, at),
+        None => Err(Fault::no_string(taken)),
+    }
+}
+
+// Appends to a text that ends as `left` the row of the bridge to `right`, at the place `at`.
+pub fn append<S: Automaton>(
+    automaton: &S,
+    left: &[S::Kind],
+    right: &[S::Kind],
+    most: usize,
+    text: &mut [S::Kind],
+    at: usize,
+    taken: usize,
+    words: &mut [u16],
+) -> Result<Joined, Fault>
+    requires most { ⌜ most ≤ length (now left) ⌝ ∗ ⌜ most ≤ length (now right) ⌝ }
+    requires work { ⌜ length (now words) ≡ 4 * model (now automaton) .count ⌝ }
+    requires small { ⌜ at + length (now right) < 2 ^ 63 ⌝ }
+    ensures answer { λ r. ⌜ r ≡ appended (bridge (Kind·Letter .alphabet) (model (now (automaton .entry))) (allLetters (Kind·Letter .alphabet)) (now (left .entry)) (now (right .entry)) most) (now (right .entry)) at (length (now (text .entry))) taken ⌝ }
+    ensures text { λ _. ⌜ now (text .exit) ≡ appended-text (bridge (Kind·Letter .alphabet) (model (now (automaton .entry))) (allLetters (Kind·Letter .alphabet)) (now (left .entry)) (now (right .entry)) most) (now (right .entry)) at (now (text .entry)) ⌝ }
+{
+    let Some(state) = walk(automaton, automaton.first(), left) else {
+        return Err(Fault::no_string(taken));
+    };
+    match overlap(automaton, state, left, right, most) {
+        Some(shared) => put_rest(right, shared, text, at),
+        None => fill(automaton, state, right, text, at, taken, words),
+    }
+}

@@ -3,6 +3,7 @@
 ghost use mathlib.Core.Path.{_≡_};
 ghost use Prim.Native.Nat.{ℕ, _+_, _<_, _≤_};
 ghost use lib.ListN.{length, getD, replicate};
+ghost use Rattle.std.specs.declared.option.Option.the-variants.{Some};
 ghost use Rattle.joinlaw.specs.Bridges.{serves};
 ghost use Rattle.joins.specs.Queue.{by, step-by, Paused, Explored};
 use automata::Automaton;
@@ -64,7 +65,8 @@ pub fn explore<S: Automaton>(
     requires among { ⌜ start < model (now automaton) .count ⌝ }
     requires unmarked { ⌜ now seen ≡ replicate (model (now automaton) .count) 0 ⌝ }
     requires long { ⌜ length (now queue) ≡ model (now automaton) .count ⌝ ∗ ⌜ length (now parents) ≡ model (now automaton) .count ⌝ ∗ ⌜ length (now letters) ≡ model (now automaton) .count ⌝ }
-    ensures { λ r. ⌜ Explored (step-by (Kind·Letter .alphabet) (model (now (automaton .entry)))) (serves (model (now (automaton .entry))) (now (right .entry))) start (by (now (queue .exit))) (by (now (parents .exit))) (by (now (letters .exit))) r ⌝ }
+    ensures explored { λ r. ⌜ Explored (step-by (Kind·Letter .alphabet) (model (now (automaton .entry)))) (serves (model (now (automaton .entry))) (now (right .entry))) start (by (now (queue .exit))) (by (now (parents .exit))) (by (now (letters .exit))) r ⌝ }
+    ensures within { λ r. ⌜ ((i : ℕ) → r ≡ Some i → i < model (now (automaton .entry)) .count) ⌝ }
 {
     seen[start as usize] = 1;
     queue[0] = start;

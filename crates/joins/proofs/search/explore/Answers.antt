@@ -46,9 +46,15 @@ loop-head-again g c =
     (e .paused) (e .kept) (k .seen) (k .queue) (k .parents) (k .letters)
 
 pub returns-then-is-some : need.returns-then-is-some
-returns-then-is-some g c =
-    exploring-found _ _ _ _ _ _ _ _ _ _ (c .loop-head .inv) (c .loop-head-test .taken)
-    (ap isSome (sym (c .walk .ensures)) ∙ sym (c .is-some .ensures) ∙ c .if-is-some .taken)
+returns-then-is-some g c = record {
+  explored =
+      exploring-found _ _ _ _ _ _ _ _ _ _ (c .loop-head .inv) (c .loop-head-test .taken)
+      (ap isSome (sym (c .walk .ensures)) ∙ sym (c .is-some .ensures) ∙ c .if-is-some .taken);
+  within = λ i e. let same : c .loop-head .head ≡ i = cc in let most = c .loop-head .inv .most in let lt = c .loop-head-test .taken in omega arith;
+}
 
 pub returns : need.returns
-returns g c = exploring-none _ _ _ _ _ _ _ _ _ _ (c .loop-head .inv) (c .loop-head-test .left)
+returns g c = record {
+  explored = exploring-none _ _ _ _ _ _ _ _ _ _ (c .loop-head .inv) (c .loop-head-test .left);
+  within = λ i e. let z : _≡_ {A = ℕ} 0 1 = cc in absurd (omega arith);
+}
