@@ -11,6 +11,7 @@ use Rattle.models.specs.Automaton.{Model, Lawful}
 use Rattle.models.specs.Strings.{Least}
 use Rattle.joinlaw.specs.Words.{Ascending}
 use Rattle.joinlaw.specs.Bridges.{serves, filling, Fills}
+use Rattle.joinlaw.specs.Laws.{FillingIs, Filling-law}
 use Rattle.joinlaw.proofs.Listing.{FirstBelow, ToldBelow, told-below}
 use Rattle.joinlaw.proofs.Orders.{least-once}
 use Rattle.joinlaw.proofs.Paths.{short-fills}
@@ -48,3 +49,9 @@ module _ {K : Type 0} (number : K → ℕ) (m : Model K) (fill : List K) (ascend
       go : (o : Option (List K)) → filling m fill q v ≡ o → filling m fill q v ≡ None
       go (Some y) e = absurd (none y (filling-least y e .0))
       go None e = e
+
+pub filling-law : {K : Type 0} (A : Alphabet K) → Filling-law A
+filling-law {K} A m lawful fill ascending q among v = go (filling m fill q v) refl where
+  go : (o : Option (List K)) → filling m fill q v ≡ o → FillingIs (A .number) m fill q v o
+  go (Some z) e = (filling-least (A .number) m fill ascending q v z e, filling-few (A .number) m fill ascending q v z e)
+  go None e = filling-none (A .number) m fill ascending q v lawful among e

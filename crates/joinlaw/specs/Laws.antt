@@ -1,5 +1,7 @@
 -- What a join is, and what the next row of a text is, with no word of overlap and filling; and that these come to the same. Assumes nothing.
 --
+--   FillingIs n m f q v o  o holds the least string over f that fills before v from the state q, shorter than there are
+--                          states, or nothing where none fills
 --   Joins m u v s          s begins with u, ends with v and passes
 --   JoinIs A m u v o       o holds the bridge of the least string that joins, or nothing where none does
 --   Continues m t v x      x has a letter, and the text t with x after it passes and ends with v
@@ -14,7 +16,12 @@ use Rattle.std.specs.declared.option.Option.the-variants.{Some, None}
 use Rattle.models.specs.Alphabet.{Alphabet}
 use Rattle.models.specs.Automaton.{Model, Lawful, Pass}
 use Rattle.models.specs.Strings.{Begins, Ends, Least}
-use Rattle.joinlaw.specs.Bridges.{Bridge, row, join, next-row}
+use Rattle.joinlaw.specs.Words.{Ascending}
+use Rattle.joinlaw.specs.Bridges.{filling, Fills, Bridge, row, join, next-row}
+
+abbrev pub FillingIs : {K : Type 0} → (K → ℕ) → Model K → List K → ℕ → List K → Option (List K) → Type 0
+FillingIs number m fill q v (Some z) = Least number (Fills m fill q v) z × (length z < m .count)
+FillingIs {K} number m fill q v None = (z : List K) → Fills m fill q v z → ⊥
 
 abbrev pub Joins : {K : Type 0} → Model K → List K → List K → List K → Type 0
 Joins m u v s = Begins u s × Ends v s × Pass m s
@@ -36,6 +43,12 @@ pub record Follows {K : Type 0} (m : Model K) (t u v : List K) : Type 0 where
   pub some : 1 ≤ length v
   pub long : length u ≡ length v
   pub memory : m .memory ≤ length v
+
+-- for every automaton and any letters that may be filled in, in ascending order: the filling is the shortest string that
+-- fills, the first in letter order among equals, and there is none exactly where no string of any length fills
+abbrev pub Filling-law : {K : Type 0} → Alphabet K → Type 0
+Filling-law {K} A =
+    (m : Model K) → Lawful m → (fill : List K) → Ascending (A .number) fill → (q : ℕ) → q < m .count → (v : List K) → FillingIs (A .number) m fill q v (filling m fill q v)
 
 -- for every automaton: the join by overlap and filling is the shortest passing string between the contexts, the first
 -- in letter order among equals, and there is none exactly where no such string of any length exists

@@ -1,6 +1,7 @@
 // Joins: the shortest passing string between two contexts, and the row that brings a text to its next window.
 pub mod answers;
 pub mod contexts;
+pub mod laws;
 pub mod marks;
 mod overlaps;
 pub mod rows;
