@@ -1,0 +1,13 @@
+pub mod Orders
+pub mod Listing
+pub mod Letters
+pub mod Cycles
+pub mod Paths
+pub mod Fillings
+pub mod Ends
+pub mod Overlaps
+pub mod Bridging
+pub mod Rows
+pub mod Joins
+pub mod NextRows
+pub mod Examples

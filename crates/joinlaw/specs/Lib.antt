@@ -1,0 +1,3 @@
+pub mod Words
+pub mod Bridges
+pub mod Laws

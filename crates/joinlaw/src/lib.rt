@@ -1,0 +1,1 @@
+// The join as plain mathematics: definitions in specs/, their theorems in proofs/. No code.

@@ -1,0 +1,12 @@
+pub mod WordOrder
+pub mod FirstWord
+pub mod Pushes
+pub mod Turns
+pub mod Spellings
+pub mod Expansions
+pub mod Explorations
+pub mod Merging
+pub mod Puts
+pub mod Traces
+pub mod Stops
+pub mod Joinings
