@@ -71,14 +71,14 @@ small {K} A n (y ∷ xs) (x ∷ u) c v e = small A n xs u c v (tail e)
     tail : {s t : Word} {a b : ℕ} → a ∷ s ≡ b ∷ t → s ≡ t
     tail e = cc
 
-pub table-means : {K : Type 0} (A : Alphabet K) → Numbered A → (ps : List (List K)) (used : ℕ) (stop : ℕ → ℕ → Bool) (goes : ℕ → ℕ → ℕ) (kept : ℕ) → Right (coded A ps) used (A .size) stop goes → kept ≡ memory (coded A ps) → Means A (table-model (A .number) used stop goes kept) ps
-table-means {K} A n ps used stop goes kept right m = record {
+pub table-means : {K : Type 0} (A : Alphabet K) → Numbered A → (ps : List (List K)) (used size : ℕ) (stop : ℕ → ℕ → Bool) (goes : ℕ → ℕ → ℕ) (kept : ℕ) → A .size ≤ size → Right (coded A ps) used size stop goes → kept ≡ memory (coded A ps) → Means A (table-model (A .number) used stop goes kept) ps
+table-means {K} A n ps used size stop goes kept wide right m = record {
   count = right .count;
   starts = states-first (coded A ps);
-  steps = λ q x h. passing.next-is (coded A ps) used (A .size) stop goes right q (A .number x) h (n .below x);
+  steps = λ q x h. passing.next-is (coded A ps) used size stop goes right q (A .number x) h (omega (arith, n .below x));
   kept = m;
-  passes = λ xs free. ap isSome (walk-by (A .number) (table-next used stop goes) 0 xs) ∙ passing.free-pass (coded A ps) used (A .size) stop goes right (map (A .number) xs) (small A n xs) (λ w has o.
+  passes = λ xs free. ap isSome (walk-by (A .number) (table-next used stop goes) 0 xs) ∙ passing.free-pass (coded A ps) used size stop goes right (map (A .number) xs) (λ u c v e. omega (arith, small A n xs u c v e)) (λ w has o.
       let f = coded-from A ps w has in
       free (f .0) (f .1 .0) (occurs-unmap (A .number) (n .apart) (f .0) xs (subst (λ (v : Word). Occurs v (map (A .number) xs)) (f .1 .1) o)));
-  stops = λ xs p has o pass. passing.pass-free (coded A ps) used (A .size) stop goes right (map (A .number) xs) (ap isSome (sym (walk-by (A .number) (table-next used stop goes) 0 xs)) ∙ pass) (map (A .number) p) (coded-has A ps p has) (occurs-map (A .number) p xs o);
+  stops = λ xs p has o pass. passing.pass-free (coded A ps) used size stop goes right (map (A .number) xs) (ap isSome (sym (walk-by (A .number) (table-next used stop goes) 0 xs)) ∙ pass) (map (A .number) p) (coded-has A ps p has) (occurs-map (A .number) p xs o);
 }

@@ -120,7 +120,7 @@ states-closed ps w c h = ⊎-elim
 pub states-fronted : (ps : List Word) (w : Word) (c : ℕ) → member ps (w ++ (c ∷ [])) ≡ true → member (states ps) w ≡ true
 states-fronted ps w c h = state-to ps (w ++ (c ∷ [])) w h (c, ([], refl))
 
-extent-above : (ps : List Word) (p : Word) → member ps p ≡ true → length p ≤ extent ps
+pub extent-above : (ps : List Word) (p : Word) → member ps p ≡ true → length p ≤ extent ps
 extent-above [] p h = absurd (both-ways false refl h)
 extent-above (q ∷ ps) p h = ⊎-elim
     (λ e. omega (arith, ap length (same-eq q p e)))

@@ -33,6 +33,13 @@ module _ (ws : List Word) (root : member ws [] ≡ true) where
       (λ e. omega (arith, longest-skip ws c t e, longest-below t))
       (cases-bool (member ws (c ∷ t)))
 
+  pub longest-short : (t : Word) → length (getD ws (longest ws t) []) ≤ length t
+  longest-short [] = omega (arith, ap length (longest-name ws [] root))
+  longest-short (c ∷ t) = ⊎-elim
+      (λ e. omega (arith, ap length (longest-name ws (c ∷ t) e)))
+      (λ e. omega (arith, ap (λ (i : ℕ). length (getD ws i [])) (longest-skip ws c t e), longest-short t))
+      (cases-bool (member ws (c ∷ t)))
+
   -- the longest state at the end of t sees the longest one at the end of t and a letter
   pub longest-step : Closed ws → (t : Word) (c : ℕ) → longest ws (t ++ (c ∷ [])) ≡ longest ws (getD ws (longest ws t) [] ++ (c ∷ []))
   longest-step closed t c = ⊎-elim

@@ -4,3 +4,8 @@ mod Bitwise
 mod Starting
 mod Marking
 mod Adding
+mod Rows
+mod Linking
+mod Settling
+mod Levels
+mod Finishing

@@ -1,3 +1,5 @@
 pub mod Names
 pub mod Lists
 pub mod Taking
+pub mod Links
+pub mod Finished

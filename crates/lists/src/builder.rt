@@ -9,10 +9,15 @@ ghost use denote.Ref.{now as at};
 ghost use Rattle.std.specs.Results.{Cases};
 ghost use Rattle.std.specs.Orderings.{Decides};
 ghost use Rattle.listlaw.specs.Patterns.{Word, gather, fronts};
+ghost use Rattle.listlaw.specs.Table.{Means};
 ghost use Rattle.listlaw.proofs.Gathering.{Places};
 ghost use Rattle.lists.specs.Names.{names, Below, Lengths, Under};
-ghost use Rattle.lists.specs.Lists.{columns, Lists, Held};
+ghost use Rattle.lists.specs.Lists.{columns as columnsOf, Lists, Held};
+ghost use Rattle.lists.specs.Finished.{listed-model};
 ghost use Rattle.lists.specs.Taking.{Roomy, Holds, cause, refused, taking};
+use crate::links::columns;
+use crate::links::complete;
+use crate::listed::Listed;
 use crate::record::Record;
 use crate::trie::enter;
 use crate::trie::grown;
@@ -43,8 +48,9 @@ pub struct Builder<'a, L> {
     ghost deep: { Lengths (at records) used },
     ghost apart: { Places (names (at records) used) },
     ghost fits: { (0 < taken → 512 ≤ length (at records)) },
-    ghost small: { Under (columns (at words)) (at records) used },
+    ghost small: { Under (columnsOf (at words)) (at records) used },
     ghost held: { Held (at records) used taken longest },
+    ghost brief: { longest ≤ 12 },
 }
 
 // The numbers of the letters of `pattern`, at the front of an array.
@@ -90,7 +96,7 @@ impl<'a, L: Letter> Builder<'a, L> {
     fn take(&mut self, word: &[u8])
         requires room { ⌜ 512 ≤ length (now (now self .records)) ⌝ ∗ ⌜ length (gather (names (now (now self .records)) (now self .used)) (fronts (now word))) ≤ 512 ⌝ }
         requires word { ⌜ 1 ≤ length (now word) ⌝ ∗ ⌜ length (now word) ≤ 12 ⌝ }
-        requires letters { ⌜ ((i : ℕ) → i < length (now word) → getD (now word) i 0 < columns (now (now self .words))) ⌝ }
+        requires letters { ⌜ ((i : ℕ) → i < length (now word) → getD (now word) i 0 < columnsOf (now (now self .words))) ⌝ }
         requires few { ⌜ now self .taken < 64 ⌝ }
         ensures words { λ _. ⌜ now (now (self .exit) .words) ≡ now (now (self .entry) .words) ⌝ }
         ensures length { λ _. ⌜ length (now (now (self .exit) .records)) ≡ length (now (now (self .entry) .records)) ⌝ }
@@ -133,5 +139,21 @@ impl<'a, L: Letter> Builder<'a, L> {
         }
         self.take(&word[0..n]);
         Ok(())
+    }
+
+    // The automaton of the patterns taken. Nothing can be added after it.
+    pub fn finish(self) -> Listed<'a, L>
+        ensures means { λ r. ⌜ ((ps : List (List L)) → Holds (L·Letter .alphabet) (now (self .entry .records)) (now (self .entry .words)) (self .entry .used) (self .entry .taken) (self .entry .longest) ps
+            → Means (L·Letter .alphabet) (listed-model (L·Letter .alphabet .number) (now (r .records)) (now (r .words)) (r .used) (r .columns) (r .taken) (r .memory)) ps) ⌝ }
+        ensures taken { λ r. ⌜ ((ps : List (List L)) → Holds (L·Letter .alphabet) (now (self .entry .records)) (now (self .entry .words)) (self .entry .used) (self .entry .taken) (self .entry .longest) ps
+            → r .taken ≡ length ps) ⌝ }
+    {
+        let Builder { records, words, used, taken, longest, kind } = self;
+        if taken == 0 {
+            return Listed { records, words, used: 1, columns: 32, taken: 0, memory: 0, kind };
+        }
+        complete(records, words, used, longest);
+        let columns = columns(words) as u8;
+        Listed { records, words, used: used as u16, columns, taken, memory: longest as u16 - 1, kind }
     }
 }

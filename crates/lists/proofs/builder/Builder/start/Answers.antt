@@ -22,7 +22,7 @@ bare g c long = elim (c .if-records-ge-STATES .came) [
 pub ghost-result : need.ghost-result
 ghost-result g c =
     let none = lists-none (c .if-records-ge-STATES .records) (bare g c) in
-    (omega arith, (omega arith, (λ i pos h. absurd (omega arith), (λ i pos h. absurd (omega arith), (places-one (c .if-records-ge-STATES .records), (λ h. absurd (omega arith), (λ i pos h. absurd (omega arith), (∣ ([], none) ∣₁, tt))))))))
+    (omega arith, (omega arith, (λ i pos h. absurd (omega arith), (λ i pos h. absurd (omega arith), (places-one (c .if-records-ge-STATES .records), (λ h. absurd (omega arith), (λ i pos h. absurd (omega arith), (∣ ([], none) ∣₁, (omega arith, tt)))))))))
 
 pub returns : need.returns
 returns g c = record { lists = lists-none (c .if-records-ge-STATES .records) (bare g (need.at·returns g c .Joined-records-ge-STATES)); wide = λ h. absurd (omega arith) }
