@@ -1,8 +1,14 @@
 // What is found of a text, and the report of it.
 ghost use mathlib.Core.Path.{_≡_};
 ghost use mathlib.Core.List.{_++_, _∷_, []};
+ghost use mathlib.Core.Bool.{cond};
+ghost use Prim.Native.Nat.{_*_};
+ghost use lib.Dec.{leb};
+ghost use Rattle.std.specs.declared.result.Result.the-variants.{Err};
+ghost use Rattle.faults.specs.Causes.{large-pair};
+ghost use Rattle.pairlaw.specs.Pairs.{pair-model};
 ghost use Rattle.pages.specs.Pages.{Wrote};
-ghost use Rattle.checks.specs.Reports.{finding, shown, letter-bytes, kind-line, limit-line, automaton-line, text-lines, verdict as verdictOf};
+ghost use Rattle.checks.specs.Reports.{finding, limited, shown, letter-bytes, kind-line, limit-line, automaton-line, text-lines, verdict as verdictOf};
 use automata::Automaton;
 use faults::Fault;
 use letters::Letter;
@@ -11,6 +17,10 @@ use letters::Seepage;
 use letters::Trend;
 use letters::Two;
 use pages::Page;
+use pairs::Pair;
+use pairs::PairAutomaton;
+use runs::Run;
+use runs::RunAutomaton;
 use stations::Kind;
 use texts::check_bytes;
 use letters::SeepagePrintable;
@@ -47,6 +57,31 @@ where
         letters: text.len(),
         stopped,
     })
+}
+
+// Checks `text` by two automata at once.
+fn judge_both<P: Automaton + Drop, Q: Automaton<Kind = P::Kind> + Drop>(left: P, right: Q, text: &[u8]) -> Result<Finding, Fault>
+where
+    P::Kind: Printable,
+    ensures { λ r. ⌜ r ≡ cond (leb (P·Automaton .model left .count * Q·Automaton .model right .count) 4096) (finding (pair-model (P·Automaton .model left) (Q·Automaton .model right)) (Kind·Letter .alphabet) (Kind·Printable .parsed) (now (text .entry))) (Err (large-pair (P·Automaton .model left .count * Q·Automaton .model right .count))) ⌝ }
+{
+    let pair = Pair::new(left, right)?;
+    judge(&pair, text)
+}
+
+// Checks `text` by `automaton`, and by the run automaton too where there is a limit.
+pub fn judge_limited<P: Automaton + Drop>(automaton: P, limit: Option<u16>, text: &[u8]) -> Result<Finding, Fault>
+where
+    P::Kind: Printable,
+    ensures { λ r. ⌜ r ≡ limited (model automaton) (Kind·Letter .alphabet) limit (λ m. finding m (Kind·Letter .alphabet) (Kind·Printable .parsed) (now (text .entry))) ⌝ }
+{
+    match limit {
+        Some(r) => {
+            let run = Run::<P::Kind>::new(r)?;
+            judge_both(automaton, run, text)
+        }
+        None => judge(&automaton, text),
+    }
 }
 
 // Writes the letters of a kind, by number.
