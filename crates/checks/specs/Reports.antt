@@ -1,13 +1,9 @@
 -- What the check program finds, and what it prints of it. Assumes nothing.
 --
---   finding m A parsed bs   what comes of the text bs under the automaton m, unless a byte of it is no letter
---   limited m A r go        what go does with the automaton of the settings: m alone, or its pair with the run automaton of
---                           limit r; a limit that is not 1 to 8 is refused, then a pair that is too large
+--   finding m reads bs   what comes of the text bs under the automaton m, unless a byte of it is no letter
 --   shown r                 what is printed of a report, line by line
-use mathlib.Core.Bool.{cond, _&&_}
 use mathlib.Core.List.{List, [], _∷_, _++_, map}
-use Prim.Native.Nat.{ℕ, _+_, _*_}
-use lib.Dec.{leb}
+use Prim.Native.Nat.{ℕ}
 use lib.Chars.{codes}
 use lib.ListN.{length}
 use Rattle.std.specs.Iters.{counting}
@@ -16,12 +12,8 @@ use Rattle.std.specs.declared.option.Option.{Option}
 use Rattle.std.specs.declared.option.Option.the-variants.{Some, None}
 use Rattle.std.specs.declared.result.Result.{Result}
 use Rattle.std.specs.declared.result.Result.the-variants.{Ok, Err}
-use Rattle.models.specs.Alphabet.{Alphabet}
 use Rattle.models.specs.Automaton.{Model}
 use Rattle.faults.specs.declared.Fault.{Fault}
-use Rattle.faults.specs.Causes.{bad-limit, large-pair}
-use Rattle.runlaw.specs.Runs.{run-model}
-use Rattle.pairlaw.specs.Pairs.{pair-model}
 use Rattle.pages.specs.Pages.{labelled}
 use Rattle.letters.specs.Two.{two-printed}
 use Rattle.letters.specs.Trends.{trend-printed}
@@ -36,18 +28,8 @@ use Rattle.checks.specs.declared.report.Report.{Report}
 abbrev pub found : {K : Type 0} → Model K → List ℕ → Option ℕ → Finding
 found m bs o = record { states = m .count; memory = m .memory; letters = length bs; stopped = o }
 
-abbrev pub finding : {K : Type 0} → Model K → Alphabet K → (ℕ → Option ℕ) → List ℕ → Result Finding Fault
-finding m A parsed bs = bind (checked m A parsed bs) (λ o. Ok (found m bs o))
-
-abbrev pub with-run : {K T : Type 0} → Model K → Alphabet K → ℕ → (Model K → Result T Fault) → Result T Fault
-with-run m A r go =
-    cond (leb 1 r && leb r 8)
-    (cond (leb (m .count * (1 + r * A .size)) 4096) (go (pair-model m (run-model A r))) (Err (large-pair (m .count * (1 + r * A .size)))))
-    (Err (bad-limit r))
-
-abbrev pub limited : {K T : Type 0} → Model K → Alphabet K → Option ℕ → (Model K → Result T Fault) → Result T Fault
-limited m A None go = go m
-limited m A (Some r) go = with-run m A r go
+abbrev pub finding : {K : Type 0} → Model K → (ℕ → Option K) → List ℕ → Result Finding Fault
+finding m reads bs = bind (checked m reads bs) (λ o. Ok (found m bs o))
 
 -- the printed letters of a kind, by number
 abbrev pub letter-bytes : (ℕ → ℕ) → ℕ → List ℕ
@@ -78,4 +60,5 @@ text-lines f =
     labelled (codes "text: ") (f .letters) (codes " letters\n") ++ (labelled (codes "walked: ") (walked f) (codes " letters\n") ++ verdict (f .stopped))
 
 abbrev pub shown : Report → List ℕ
-shown r = kind-line (r .kind) ++ (limit-line (r .limit) ++ (automaton-line (r .finding) ++ text-lines (r .finding)))
+shown r =
+    kind-line (r .kind) ++ (labelled (codes "patterns: ") (r .patterns) (10 ∷ []) ++ (limit-line (r .limit) ++ (automaton-line (r .finding) ++ text-lines (r .finding))))

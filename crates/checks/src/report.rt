@@ -8,7 +8,9 @@ ghost use Rattle.std.specs.declared.result.Result.the-variants.{Err};
 ghost use Rattle.faults.specs.Causes.{large-pair};
 ghost use Rattle.pairlaw.specs.Pairs.{pair-model};
 ghost use Rattle.pages.specs.Pages.{Wrote};
-ghost use Rattle.checks.specs.Reports.{finding, limited, shown, letter-bytes, kind-line, limit-line, automaton-line, text-lines, verdict as verdictOf};
+ghost use Rattle.texts.specs.Texts.{reading};
+ghost use Rattle.listings.specs.Listings.{limited};
+ghost use Rattle.checks.specs.Reports.{finding, shown, letter-bytes, kind-line, limit-line, automaton-line, text-lines, verdict as verdictOf};
 use automata::Automaton;
 use faults::Fault;
 use letters::Letter;
@@ -40,6 +42,7 @@ pub struct Finding {
 #[derive(Clone, Copy)]
 pub struct Report {
     pub kind: Kind,
+    pub patterns: usize,
     pub limit: Option<u16>,
     pub finding: Finding,
 }
@@ -48,7 +51,7 @@ pub struct Report {
 pub fn judge<S: Automaton>(automaton: &S, text: &[u8]) -> Result<Finding, Fault>
 where
     S::Kind: Printable,
-    ensures { λ r. ⌜ r ≡ finding (model (now (automaton .entry))) (Kind·Letter .alphabet) (Kind·Printable .parsed) (now (text .entry)) ⌝ }
+    ensures { λ r. ⌜ r ≡ finding (model (now (automaton .entry))) (reading (Kind·Letter .alphabet) (Kind·Printable .parsed)) (now (text .entry)) ⌝ }
 {
     let stopped = check_bytes(automaton, text)?;
     Ok(Finding {
@@ -63,7 +66,7 @@ where
 fn judge_both<P: Automaton + Drop, Q: Automaton<Kind = P::Kind> + Drop>(left: P, right: Q, text: &[u8]) -> Result<Finding, Fault>
 where
     P::Kind: Printable,
-    ensures { λ r. ⌜ r ≡ cond (leb (P·Automaton .model left .count * Q·Automaton .model right .count) 4096) (finding (pair-model (P·Automaton .model left) (Q·Automaton .model right)) (Kind·Letter .alphabet) (Kind·Printable .parsed) (now (text .entry))) (Err (large-pair (P·Automaton .model left .count * Q·Automaton .model right .count))) ⌝ }
+    ensures { λ r. ⌜ r ≡ cond (leb (P·Automaton .model left .count * Q·Automaton .model right .count) 4096) (finding (pair-model (P·Automaton .model left) (Q·Automaton .model right)) (reading (Kind·Letter .alphabet) (Kind·Printable .parsed)) (now (text .entry))) (Err (large-pair (P·Automaton .model left .count * Q·Automaton .model right .count))) ⌝ }
 {
     let pair = Pair::new(left, right)?;
     judge(&pair, text)
@@ -73,7 +76,7 @@ where
 pub fn judge_limited<P: Automaton + Drop>(automaton: P, limit: Option<u16>, text: &[u8]) -> Result<Finding, Fault>
 where
     P::Kind: Printable,
-    ensures { λ r. ⌜ r ≡ limited (model automaton) (Kind·Letter .alphabet) limit (λ m. finding m (Kind·Letter .alphabet) (Kind·Printable .parsed) (now (text .entry))) ⌝ }
+    ensures { λ r. ⌜ r ≡ limited (model automaton) (Kind·Letter .alphabet) limit (λ m. finding m (reading (Kind·Letter .alphabet) (Kind·Printable .parsed)) (now (text .entry))) ⌝ }
 {
     match limit {
         Some(r) => {
@@ -153,6 +156,7 @@ impl Report {
         ensures { λ _. ⌜ Wrote (now (page .entry)) (now (page .exit)) (shown (now (self .entry))) ⌝ }
     {
         show_kind(self.kind, page);
+        page.labelled(b"patterns: ", self.patterns, b"\n");
         show_limit(self.limit, page);
         show_automaton(&self.finding, page);
         show_text(&self.finding, page);

@@ -4,7 +4,7 @@ use lib.Seq.{take-all}
 use Rattle.std.proofs.shelf.Lists.{getD-default}
 use Rattle.models.specs.Automaton.{walk}
 use Rattle.models.proofs.Walks.{walk-more, stops-here, stops-none}
-use Rattle.texts.specs.Texts.{byte-next}
+use Rattle.texts.specs.Texts.{reading, byte-next}
 use Rattle.texts.proofs.stop_place.Needs as need
 
 pub returns-in-None : need.returns-in-None
@@ -19,6 +19,6 @@ loop-i-again g c =
 pub returns : need.returns
 returns g c =
     let m = g .S·Automaton .model (c .args .automaton .now) in
-    let next = byte-next m (g .Kind·Letter .alphabet) (g .Kind·Printable .parsed) in
+    let next = byte-next m (reading (g .Kind·Letter .alphabet) (g .Kind·Printable .parsed)) in
     let all = ap (walk next (m .start)) (sym (take-all _ _ (c .loop-i-test .left))) in
     sym (stops-none next (m .start) _ (c .args .bytes .now) (all ∙ c .loop-i .inv))

@@ -3,4 +3,4 @@ use Rattle.pages.proofs.Writes.{wrote-then}
 use Rattle.checks.proofs.report.Report.show.Needs as need
 
 pub returns : need.returns
-returns c = wrote-then _ refl (c .show-kind .ensures) (wrote-then _ refl (c .show-limit .ensures) (wrote-then _ refl (c .show-automaton .ensures) (c .show-text .ensures)))
+returns c = wrote-then _ refl (c .show-kind .ensures) (wrote-then _ refl (c .labelled .ensures) (wrote-then _ refl (c .show-limit .ensures) (wrote-then _ refl (c .show-automaton .ensures) (c .show-text .ensures))))
