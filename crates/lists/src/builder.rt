@@ -14,16 +14,19 @@ ghost use Rattle.listlaw.proofs.Gathering.{Places};
 ghost use Rattle.lists.specs.Names.{names, Below, Lengths, Under};
 ghost use Rattle.lists.specs.Lists.{columns as columnsOf, Lists, Held};
 ghost use Rattle.lists.specs.Finished.{listed-model};
+ghost use Rattle.lists.specs.Reading.{reading, spelling, byte-cause};
 ghost use Rattle.lists.specs.Taking.{Roomy, Holds, cause, refused, taking};
 use crate::links::columns;
 use crate::links::complete;
 use crate::listed::Listed;
+use crate::reading::read;
 use crate::record::Record;
 use crate::trie::enter;
 use crate::trie::grown;
 use crate::trie::mark;
 use faults::Fault;
 use letters::Letter;
+use letters::Printable;
 use std::marker::PhantomData;
 
 // The records that a list needs, one for each state that it can have; it needs as many words for each letter.
@@ -178,5 +181,24 @@ impl<'a, L: Letter> Builder<'a, L> {
         complete(records, words, used, longest);
         let columns = columns(words) as u8;
         Listed { records, words, used: used as u16, columns, taken, memory: longest as u16 - 1, kind }
+    }
+}
+
+impl<'a, L: Printable> Builder<'a, L> {
+    // Takes the pattern that `bytes` spell. A byte that is no letter is refused before all else.
+    pub fn add_bytes(&mut self, bytes: &[u8]) -> Result<(), Fault>
+        ensures cause { λ r. ⌜ ((ps : List (List L)) → Holds (L·Letter .alphabet) (now (now (self .entry) .records)) (now (now (self .entry) .words)) (now (self .entry) .used) (now (self .entry) .taken) (now (self .entry) .longest) ps
+            → refused r ≡ byte-cause (L·Letter .alphabet) (reading (L·Letter .alphabet) (L·Printable .parsed)) (length (now (now (self .entry) .records))) (length (now (now (self .entry) .words))) ps (now (bytes .entry))) ⌝ }
+        ensures holds { λ r. ⌜ ((ps : List (List L)) → Holds (L·Letter .alphabet) (now (now (self .entry) .records)) (now (now (self .entry) .words)) (now (self .entry) .used) (now (self .entry) .taken) (now (self .entry) .longest) ps
+            → Holds (L·Letter .alphabet) (now (now (self .exit) .records)) (now (now (self .exit) .words)) (now (self .exit) .used) (now (self .exit) .taken) (now (self .exit) .longest) (taking r ps (spelling (reading (L·Letter .alphabet) (L·Printable .parsed)) (now (bytes .entry))))) ⌝ }
+        ensures same { λ r. ⌜ Cases r (λ _. Unit {0}) (λ _.
+            (now (now (self .exit) .records) ≡ now (now (self .entry) .records))
+            × (now (now (self .exit) .words) ≡ now (now (self .entry) .words))
+            × (now (self .exit) .used ≡ now (self .entry) .used)
+            × (now (self .exit) .taken ≡ now (self .entry) .taken)
+            × (now (self .exit) .longest ≡ now (self .entry) .longest)) ⌝ }
+    {
+        let word = read::<L>(bytes)?;
+        self.judge(word, bytes.len())
     }
 }
