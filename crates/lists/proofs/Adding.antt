@@ -9,8 +9,8 @@ use lib.ListN.{length, getD, take}
 use Rattle.std.specs.declared.option.Option.{Option}
 use Rattle.std.specs.declared.option.Option.the-variants.{Some, None}
 use Rattle.std.proofs.shelf.Bits.{le-div}
-use Rattle.std.proofs.shelf.Lists.{map-push, length-map, getD-map, getD-past}
-use Rattle.std.proofs.shelf.Tests.{le-ltb, ne-eqb, cond-true, cond-false, or-from, cases-lt}
+use Rattle.std.proofs.shelf.Lists.{map-push, length-map}
+use Rattle.std.proofs.shelf.Tests.{le-ltb, ne-eqb, cond-true, cond-false, or-from}
 use Rattle.models.specs.Alphabet.{Alphabet, Numbered}
 use Rattle.faults.specs.declared.Fault.{Fault}
 use Rattle.faults.specs.Causes.{bad-length, full-list, short-tables}
@@ -26,11 +26,9 @@ module _ {K : Type 0} (A : Alphabet K) where
   coded-push ps p = map-push (map (A .number)) ps p
 
   -- a letter's number is below the columns of words that are long enough
-  pub letters-small : Numbered A → (words : List ℕ) (n : ℕ) → Roomy A n (length words) → (p : List K) (i : ℕ) → i < length p → getD (map (A .number) p) i 0 < columns words
-  letters-small numbered words n roomy [] i h = absurd (omega arith)
-  letters-small numbered words n roomy (x ∷ p) i h =
+  pub letter-small : Numbered A → (words : List ℕ) (n : ℕ) → Roomy A n (length words) → (a : ℕ) → a < A .size → a < columns words
+  letter-small numbered words n roomy a h =
       let d = le-div (A .size) (length words) 512 (omega arith) (omega (arith, roomy .1)) in
-      let k : getD (map (A .number) (x ∷ p)) i 0 < A .size = omega (arith, getD-map (A .number) (x ∷ p) i x 0 h, numbered .below (getD (x ∷ p) i x)) in
       omega (arith, numbered .few)
 
   module _ (ns : List Record) (words : List ℕ) (used taken longest : ℕ) (ps : List (List K)) (holds : Holds A ns words used taken longest ps) (p : List K) where

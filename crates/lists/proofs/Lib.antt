@@ -9,3 +9,4 @@ mod Linking
 mod Settling
 mod Levels
 mod Finishing
+mod Spelt

@@ -3,3 +3,4 @@ pub mod Lists
 pub mod Taking
 pub mod Links
 pub mod Finished
+pub mod Reading

@@ -14,16 +14,19 @@ ghost use Rattle.listlaw.proofs.Gathering.{Places};
 ghost use Rattle.lists.specs.Names.{names, Below, Lengths, Under};
 ghost use Rattle.lists.specs.Lists.{columns as columnsOf, Lists, Held};
 ghost use Rattle.lists.specs.Finished.{listed-model};
+ghost use Rattle.lists.specs.Reading.{reading, spelling, byte-cause};
 ghost use Rattle.lists.specs.Taking.{Roomy, Holds, cause, refused, taking};
 use crate::links::columns;
 use crate::links::complete;
 use crate::listed::Listed;
+use crate::reading::read;
 use crate::record::Record;
 use crate::trie::enter;
 use crate::trie::grown;
 use crate::trie::mark;
 use faults::Fault;
 use letters::Letter;
+use letters::Printable;
 use std::marker::PhantomData;
 
 // The records that a list needs, one for each state that it can have; it needs as many words for each letter.
@@ -53,16 +56,25 @@ pub struct Builder<'a, L> {
     ghost brief: { longest ≤ 12 },
 }
 
-// The numbers of the letters of `pattern`, at the front of an array.
+// The numbers of the letters of `pattern`, of its first 12 if there are more.
 fn numbers<L: Letter>(pattern: &[L]) -> [u8; 12]
-    requires { ⌜ length (now pattern) ≤ 12 ⌝ }
-    ensures { λ r. ⌜ take (length (now (pattern .entry))) r ≡ map (L·Letter .alphabet .number) (now (pattern .entry)) ⌝ }
+    ensures word { λ r. ⌜ (length (now (pattern .entry)) ≤ 12 → take (length (now (pattern .entry))) r ≡ map (L·Letter .alphabet .number) (now (pattern .entry))) ⌝ }
+    ensures small { λ r. ⌜ ((i : ℕ) → i < length (now (pattern .entry)) → i < 12 → getD r i 0 < L·Letter .alphabet .size) ⌝ }
 {
     let mut word = [0; 12];
     for (i, letter) in pattern.iter().enumerate() {
-        word[i] = letter.number();
+        if i < LETTERS {
+            word[i] = letter.number();
+        }
     }
     word
+}
+
+// Whether tables of so many records and words are long enough for the letters of a kind.
+fn roomy<L: Letter>(records: usize, words: usize, _kind: PhantomData<L>) -> bool
+    ensures { λ r. ⌜ Decides r (Roomy (L·Letter .alphabet) records words) ⌝ }
+{
+    records >= STATES && words >= STATES * L::count() as usize
 }
 
 impl<'a, L: Letter> Builder<'a, L> {
@@ -76,13 +88,6 @@ impl<'a, L: Letter> Builder<'a, L> {
         Builder { records, words, used: 1, taken: 0, longest: 0, kind: PhantomData }
     }
 
-    // Whether both tables are long enough.
-    fn roomy(&self) -> bool
-        ensures { λ r. ⌜ Decides r (Roomy (L·Letter .alphabet) (length (now (now (self .entry) .records))) (length (now (now (self .entry) .words)))) ⌝ }
-    {
-        self.records.len() >= STATES && self.words.len() >= STATES * L::count() as usize
-    }
-
     // Whether the pattern `word` would be one too many, or bring a state too many.
     fn full(&self, word: &[u8]) -> bool
         requires room { ⌜ 512 ≤ length (now (now self .records)) ⌝ }
@@ -90,6 +95,13 @@ impl<'a, L: Letter> Builder<'a, L> {
         ensures { λ r. ⌜ r ≡ (leb 64 (now (self .entry) .taken) || ltb 512 (length (gather (names (now (now (self .entry) .records)) (now (self .entry) .used)) (fronts (now (word .entry)))))) ⌝ }
     {
         self.taken >= PATTERNS || grown(self.records, self.used, word) > STATES
+    }
+
+    // How many patterns it has taken, repeats counted.
+    pub fn patterns(&self) -> usize
+        ensures { λ r. ⌜ r ≡ now (self .entry) .taken ⌝ }
+    {
+        self.taken
     }
 
     // Takes the pattern `word`, for which there is room.
@@ -112,6 +124,33 @@ impl<'a, L: Letter> Builder<'a, L> {
         *longest = n.max(*longest);
     }
 
+    // Takes a pattern of n letters, whose numbers are at the front of `word`, or refuses it.
+    fn judge(&mut self, word: [u8; 12], n: usize) -> Result<(), Fault>
+        requires { ⌜ ((i : ℕ) → i < n → i < 12 → getD word i 0 < L·Letter .alphabet .size) ⌝ }
+        ensures cause { λ r. ⌜ ((ps : List (List L)) (p : List L) → length p ≡ n → (n ≤ 12 → take n word ≡ map (L·Letter .alphabet .number) p) → Holds (L·Letter .alphabet) (now (now (self .entry) .records)) (now (now (self .entry) .words)) (now (self .entry) .used) (now (self .entry) .taken) (now (self .entry) .longest) ps
+            → refused r ≡ cause (L·Letter .alphabet) (length (now (now (self .entry) .records))) (length (now (now (self .entry) .words))) ps p) ⌝ }
+        ensures holds { λ r. ⌜ ((ps : List (List L)) (p : List L) → length p ≡ n → (n ≤ 12 → take n word ≡ map (L·Letter .alphabet .number) p) → Holds (L·Letter .alphabet) (now (now (self .entry) .records)) (now (now (self .entry) .words)) (now (self .entry) .used) (now (self .entry) .taken) (now (self .entry) .longest) ps
+            → Holds (L·Letter .alphabet) (now (now (self .exit) .records)) (now (now (self .exit) .words)) (now (self .exit) .used) (now (self .exit) .taken) (now (self .exit) .longest) (taking r ps p)) ⌝ }
+        ensures same { λ r. ⌜ Cases r (λ _. Unit {0}) (λ _.
+            (now (now (self .exit) .records) ≡ now (now (self .entry) .records))
+            × (now (now (self .exit) .words) ≡ now (now (self .entry) .words))
+            × (now (self .exit) .used ≡ now (self .entry) .used)
+            × (now (self .exit) .taken ≡ now (self .entry) .taken)
+            × (now (self .exit) .longest ≡ now (self .entry) .longest)) ⌝ }
+    {
+        if !roomy(self.records.len(), self.words.len(), self.kind) {
+            return Err(Fault::short_tables());
+        }
+        if n == 0 || n > LETTERS {
+            return Err(Fault::bad_length(n));
+        }
+        if self.full(&word[0..n]) {
+            return Err(Fault::full_list(self.patterns()));
+        }
+        self.take(&word[0..n]);
+        Ok(())
+    }
+
     // Takes a pattern. A refused one leaves the list and both tables as they were.
     pub fn add(&mut self, pattern: &[L]) -> Result<(), Fault>
         ensures cause { λ r. ⌜ ((ps : List (List L)) → Holds (L·Letter .alphabet) (now (now (self .entry) .records)) (now (now (self .entry) .words)) (now (self .entry) .used) (now (self .entry) .taken) (now (self .entry) .longest) ps
@@ -125,20 +164,7 @@ impl<'a, L: Letter> Builder<'a, L> {
             × (now (self .exit) .taken ≡ now (self .entry) .taken)
             × (now (self .exit) .longest ≡ now (self .entry) .longest)) ⌝ }
     {
-        if !self.roomy() {
-            return Err(Fault::short_tables());
-        }
-        let _kind: PhantomData<L> = PhantomData;
-        let n = pattern.len();
-        if n == 0 || n > LETTERS {
-            return Err(Fault::bad_length(n));
-        }
-        let word = numbers(pattern);
-        if self.full(&word[0..n]) {
-            return Err(Fault::full_list(self.taken));
-        }
-        self.take(&word[0..n]);
-        Ok(())
+        self.judge(numbers(pattern), pattern.len())
     }
 
     // The automaton of the patterns taken. Nothing can be added after it.
@@ -155,5 +181,24 @@ impl<'a, L: Letter> Builder<'a, L> {
         complete(records, words, used, longest);
         let columns = columns(words) as u8;
         Listed { records, words, used: used as u16, columns, taken, memory: longest as u16 - 1, kind }
+    }
+}
+
+impl<'a, L: Printable> Builder<'a, L> {
+    // Takes the pattern that `bytes` spell. A byte that is no letter is refused before all else.
+    pub fn add_bytes(&mut self, bytes: &[u8]) -> Result<(), Fault>
+        ensures cause { λ r. ⌜ ((ps : List (List L)) → Holds (L·Letter .alphabet) (now (now (self .entry) .records)) (now (now (self .entry) .words)) (now (self .entry) .used) (now (self .entry) .taken) (now (self .entry) .longest) ps
+            → refused r ≡ byte-cause (L·Letter .alphabet) (reading (L·Letter .alphabet) (L·Printable .parsed)) (length (now (now (self .entry) .records))) (length (now (now (self .entry) .words))) ps (now (bytes .entry))) ⌝ }
+        ensures holds { λ r. ⌜ ((ps : List (List L)) → Holds (L·Letter .alphabet) (now (now (self .entry) .records)) (now (now (self .entry) .words)) (now (self .entry) .used) (now (self .entry) .taken) (now (self .entry) .longest) ps
+            → Holds (L·Letter .alphabet) (now (now (self .exit) .records)) (now (now (self .exit) .words)) (now (self .exit) .used) (now (self .exit) .taken) (now (self .exit) .longest) (taking r ps (spelling (reading (L·Letter .alphabet) (L·Printable .parsed)) (now (bytes .entry))))) ⌝ }
+        ensures same { λ r. ⌜ Cases r (λ _. Unit {0}) (λ _.
+            (now (now (self .exit) .records) ≡ now (now (self .entry) .records))
+            × (now (now (self .exit) .words) ≡ now (now (self .entry) .words))
+            × (now (self .exit) .used ≡ now (self .entry) .used)
+            × (now (self .exit) .taken ≡ now (self .entry) .taken)
+            × (now (self .exit) .longest ≡ now (self .entry) .longest)) ⌝ }
+    {
+        let word = read::<L>(bytes)?;
+        self.judge(word, bytes.len())
     }
 }

@@ -2,6 +2,7 @@
 pub mod builder;
 pub mod links;
 pub mod listed;
+pub mod reading;
 pub mod record;
 pub mod trie;
 
