@@ -20,11 +20,11 @@ use Rattle.letters.specs.Seepages.{seepage-alphabet, seepage-parsed}
 use Rattle.files.specs.Lines.{items}
 use Rattle.files.specs.Refusals.{at-line, refusal-line}
 use Rattle.files.specs.declared.refusals.Refusal.{Refusal}
-use Rattle.texts.specs.Texts.{reading as letters-of}
+use Rattle.texts.specs.Texts.{reading}
 use Rattle.stations.specs.Stations.{Item, early, onward, headed, ended}
 use Rattle.stations.specs.declared.Kind.{Kind}
 use Rattle.stations.specs.declared.Kind.the-variants.{Two, Trend, Seepage}
-use Rattle.listings.specs.Listings.{Listing, list-model, limited, reading, fresh, and-then}
+use Rattle.listings.specs.Listings.{Listing, list-model, limited, listed, fresh, and-then}
 use Rattle.checks.specs.Reports.{finding, shown}
 use Rattle.checks.specs.declared.report.Finding.{Finding}
 use Rattle.checks.specs.declared.report.Report.{Report}
@@ -34,12 +34,12 @@ report-of k l f = record { kind = k; patterns = length (l .patterns); limit = l 
 
 -- the trace line is judged: its run limit, the pair, and then its text
 abbrev pub judged : {K : Type 0} → Alphabet K → (ℕ → Option ℕ) → Listing K → Result Finding Refusal
-judged A parsed l = at-line (limited (list-model A (l .patterns)) A (l .form .limit) (λ m. finding m (letters-of A parsed) (l .trace))) (l .line)
+judged A parsed l = at-line (limited (list-model A (l .patterns)) A (l .form .limit) (λ m. finding m (reading A parsed) (l .trace))) (l .line)
 
 -- from the line after the kind line on
 abbrev pub body : {K : Type 0} → Kind → Alphabet K → (ℕ → Option ℕ) → ℕ → ℕ → ℕ → List Item → Result Report Refusal
 body k A parsed n w l xs =
-    and-then (reading A parsed n w l fresh [] xs) (λ d. and-then (judged A parsed d) (λ f. and-then (ended (d .line + 1) (d .rest)) (λ _. Ok (report-of k d f))))
+    and-then (listed A (reading A parsed) n w l fresh [] xs) (λ d. and-then (judged A parsed d) (λ f. and-then (ended (d .line + 1) (d .rest)) (λ _. Ok (report-of k d f))))
 
 abbrev pub body-of : ℕ → ℕ → Kind → ℕ → List Item → Result Report Refusal
 body-of n w Two l xs = body Two two-alphabet two-parsed n w l xs

@@ -3,10 +3,10 @@
 --   list-model A ps           the automaton of the patterns ps over the letters of A
 --   limited m A r go          what go does with the automaton of the settings: m alone, or its pair with the run automaton of
 --                             limit r; a limit that is not 1 to 8 is refused, then a pair that is too large
---   take-pattern A parsed n w ps bs
+--   take-pattern A reads n w ps bs
 --                             the patterns after the pattern line bs, for a list on n records and w words that holds ps
 --   Listing K                 what a file says up to its trace, and what is left of it
---   reading A parsed n w l f ps xs
+--   listed A reads n w l f ps xs
 --                             the same from the line l on, with the settings f and the patterns ps so far
 use mathlib.Core.Bool.{cond, _&&_}
 use mathlib.Core.List.{List, [], _∷_, _++_}
@@ -25,9 +25,9 @@ use Rattle.runlaw.specs.Runs.{run-model}
 use Rattle.pairlaw.specs.Pairs.{pair-model}
 use Rattle.listlaw.specs.Patterns.{coded, states, memory}
 use Rattle.listlaw.specs.Table.{after}
-use Rattle.lists.specs.Taking.{cause}
+use Rattle.lists.specs.Reading.{byte-cause}
 use Rattle.files.specs.declared.refusals.Refusal.{Refusal}
-use Rattle.texts.specs.Texts.{read-text}
+use Rattle.texts.specs.Texts.{spelled}
 use Rattle.stations.specs.Stations.{Item, Handed, nothing, a-pattern, the-trace, early, bind, onward, take-line}
 use Rattle.stations.specs.declared.Form.{Form}
 use Rattle.stations.specs.declared.Stage.the-variants.{Named}
@@ -55,8 +55,8 @@ abbrev pub unless : {T : Type 0} → Option Fault → T → Result T Fault
 unless None x = Ok x
 unless (Some f) x = Err f
 
-abbrev pub take-pattern : {K : Type 0} → Alphabet K → (ℕ → Option ℕ) → ℕ → ℕ → List (List K) → List ℕ → Result (List (List K)) Fault
-take-pattern A parsed n w ps bs = bind (read-text A parsed bs) (λ p. unless (cause A n w ps p) (ps ++ (p ∷ [])))
+abbrev pub take-pattern : {K : Type 0} → Alphabet K → (ℕ → Option K) → ℕ → ℕ → List (List K) → List ℕ → Result (List (List K)) Fault
+take-pattern A reads n w ps bs = unless (byte-cause A reads n w ps bs) (ps ++ (spelled reads bs ∷ []))
 
 pub record Listing (K : Type 0) : Type 0 where
   pub form : Form
@@ -67,15 +67,15 @@ pub record Listing (K : Type 0) : Type 0 where
   pub rest : List Item
 
 -- what a line hands on: nothing, a pattern to take, or the trace; `go` goes on with the settings and patterns
-abbrev pub hand : {K : Type 0} → Alphabet K → (ℕ → Option ℕ) → ℕ → ℕ → ℕ → List (List K) → List Item → (Form → List (List K) → Result (Listing K) Refusal) → Form → Handed → Result (Listing K) Refusal
-hand A parsed n w l ps xs go f nothing = go f ps
-hand A parsed n w l ps xs go f (a-pattern bs) = onward l (take-pattern A parsed n w ps bs) (λ qs. go f qs)
-hand A parsed n w l ps xs go f (the-trace bs) = Ok (record { form = f; patterns = ps; trace = bs; line = l; rest = xs })
+abbrev pub hand : {K : Type 0} → Alphabet K → (ℕ → Option K) → ℕ → ℕ → ℕ → List (List K) → List Item → (Form → List (List K) → Result (Listing K) Refusal) → Form → Handed → Result (Listing K) Refusal
+hand A reads n w l ps xs go f nothing = go f ps
+hand A reads n w l ps xs go f (a-pattern bs) = onward l (take-pattern A reads n w ps bs) (λ qs. go f qs)
+hand A reads n w l ps xs go f (the-trace bs) = Ok (record { form = f; patterns = ps; trace = bs; line = l; rest = xs })
 
-abbrev pub reading : {K : Type 0} → Alphabet K → (ℕ → Option ℕ) → ℕ → ℕ → ℕ → Form → List (List K) → List Item → Result (Listing K) Refusal
-reading A parsed n w l f ps [] = Err early
-reading A parsed n w l f ps (x ∷ xs) =
-    onward l (bind x (take-line f)) (λ t. hand A parsed n w l ps xs (λ g qs. reading A parsed n w (l + 1) g qs xs) (t .0) (t .1))
+abbrev pub listed : {K : Type 0} → Alphabet K → (ℕ → Option K) → ℕ → ℕ → ℕ → Form → List (List K) → List Item → Result (Listing K) Refusal
+listed A reads n w l f ps [] = Err early
+listed A reads n w l f ps (x ∷ xs) =
+    onward l (bind x (take-line f)) (λ t. hand A reads n w l ps xs (λ g qs. listed A reads n w (l + 1) g qs xs) (t .0) (t .1))
 
 -- the settings right after the kind line
 abbrev pub fresh : Form

@@ -14,7 +14,8 @@ ghost use Rattle.listlaw.proofs.Gathering.{Places};
 ghost use Rattle.lists.specs.Names.{names, Below, Lengths, Under};
 ghost use Rattle.lists.specs.Lists.{columns as columnsOf, Lists, Held};
 ghost use Rattle.lists.specs.Finished.{listed-model};
-ghost use Rattle.lists.specs.Reading.{reading, spelling, byte-cause};
+ghost use Rattle.texts.specs.Texts.{reading, spelled};
+ghost use Rattle.lists.specs.Reading.{byte-cause};
 ghost use Rattle.lists.specs.Taking.{Roomy, Holds, cause, refused, taking};
 use crate::links::columns;
 use crate::links::complete;
@@ -190,7 +191,7 @@ impl<'a, L: Printable> Builder<'a, L> {
         ensures cause { λ r. ⌜ ((ps : List (List L)) → Holds (L·Letter .alphabet) (now (now (self .entry) .records)) (now (now (self .entry) .words)) (now (self .entry) .used) (now (self .entry) .taken) (now (self .entry) .longest) ps
             → refused r ≡ byte-cause (L·Letter .alphabet) (reading (L·Letter .alphabet) (L·Printable .parsed)) (length (now (now (self .entry) .records))) (length (now (now (self .entry) .words))) ps (now (bytes .entry))) ⌝ }
         ensures holds { λ r. ⌜ ((ps : List (List L)) → Holds (L·Letter .alphabet) (now (now (self .entry) .records)) (now (now (self .entry) .words)) (now (self .entry) .used) (now (self .entry) .taken) (now (self .entry) .longest) ps
-            → Holds (L·Letter .alphabet) (now (now (self .exit) .records)) (now (now (self .exit) .words)) (now (self .exit) .used) (now (self .exit) .taken) (now (self .exit) .longest) (taking r ps (spelling (reading (L·Letter .alphabet) (L·Printable .parsed)) (now (bytes .entry))))) ⌝ }
+            → Holds (L·Letter .alphabet) (now (now (self .exit) .records)) (now (now (self .exit) .words)) (now (self .exit) .used) (now (self .exit) .taken) (now (self .exit) .longest) (taking r ps (spelled (reading (L·Letter .alphabet) (L·Printable .parsed)) (now (bytes .entry))))) ⌝ }
         ensures same { λ r. ⌜ Cases r (λ _. Unit {0}) (λ _.
             (now (now (self .exit) .records) ≡ now (now (self .entry) .records))
             × (now (now (self .exit) .words) ≡ now (now (self .entry) .words))

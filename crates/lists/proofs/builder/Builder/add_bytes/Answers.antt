@@ -2,9 +2,10 @@ use mathlib.Core.Path.{_≡_, refl, sym, ap, _∙_}
 use Rattle.std.specs.declared.option.Option.{Option}
 use Prim.Native.Nat.{ℕ}
 use lib.ListN.{length}
-use Rattle.lists.specs.Reading.{reading, strange, spelling, strange-cause}
+use Rattle.texts.specs.Texts.{reading, stray, spelled}
+use Rattle.lists.specs.Reading.{stray-cause}
 use Rattle.lists.specs.Taking.{cause}
-use Rattle.lists.proofs.Spelt.{spelling-length}
+use Rattle.lists.proofs.Spelt.{length-spelled}
 use Rattle.lists.proofs.builder.Builder.add_bytes.Needs as need
 
 pub returns : need.returns
@@ -13,10 +14,10 @@ returns g c =
     let reads = reading A (g .L·Printable .parsed) in
     let bytes = c .args .bytes .now in
     let r = c .in-Continue-word .ensures tt in
-    let p = spelling reads bytes in
-    let long = spelling-length reads bytes (r .0) in
+    let p = spelled reads bytes in
+    let long = length-spelled reads bytes (r .0) in
     record {
-      cause = λ ps h. c .judge .ensures .cause ps p long (r .1) h ∙ sym (ap (λ (o : Option ℕ). strange-cause o (cause A (length (c .args .self .now .records .now)) (length (c .args .self .now .words .now)) ps p)) (r .0));
+      cause = λ ps h. c .judge .ensures .cause ps p long (r .1) h ∙ sym (ap (λ (o : Option ℕ). stray-cause o (cause A (length (c .args .self .now .records .now)) (length (c .args .self .now .words .now)) ps p)) (r .0));
       holds = λ ps h. c .judge .ensures .holds ps p long (r .1) h;
       same = c .judge .ensures .same;
     }
