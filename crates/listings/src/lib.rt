@@ -2,10 +2,9 @@
 ghost use mathlib.Core.Path.{_≡_};
 ghost use mathlib.Core.List.{List};
 ghost use Prim.Native.Nat.{ℕ, _+_};
-ghost use lib.ListN.{length};
 ghost use Rattle.std.specs.declared.result.Result.the-variants.{Ok, Err};
 ghost use Rattle.files.specs.Lines.{items, meant};
-ghost use Rattle.lists.specs.Taking.{Holds};
+ghost use Rattle.lists.specs.History.{Holds};
 ghost use Rattle.stations.specs.Stations.{bind, take-line, handed};
 ghost use Rattle.texts.specs.Texts.{reading};
 ghost use Rattle.listings.specs.Listings.{listed, fresh};
@@ -38,9 +37,9 @@ fn next_part<'a>(form: &mut Form, line: Result<Line<'a>, Fault>) -> Result<Part<
 
 // Reads up to the trace, and takes the patterns into `list`.
 pub fn read<'a, L: Printable>(lines: &mut Lines<'a>, list: &mut Builder<'_, L>) -> Result<Preface<'a>, Refusal>
-    ensures { λ r. ⌜ ((ps : List (List L)) → Holds (L·Letter .alphabet) (now (now (list .entry) .records)) (now (now (list .entry) .words)) (now (list .entry) .used) (now (list .entry) .taken) (now (list .entry) .longest) ps
-        → Read-as (listed (L·Letter .alphabet) (reading (L·Letter .alphabet) (L·Printable .parsed)) (length (now (now (list .entry) .records))) (length (now (now (list .entry) .words))) (now (lines .entry) .number + 1) fresh ps (items (now (now (lines .entry) .rest)))) r
-            (now (lines .exit) .number) (now (now (lines .exit) .rest)) (λ qs. Holds (L·Letter .alphabet) (now (now (list .exit) .records)) (now (now (list .exit) .words)) (now (list .exit) .used) (now (list .exit) .taken) (now (list .exit) .longest) qs)) ⌝ }
+    ensures { λ r. ⌜ ((n m : ℕ) (ps : List (List L)) → Holds (L·Letter .alphabet) n m (now (list .entry)) ps
+        → Read-as (listed (L·Letter .alphabet) (reading (L·Letter .alphabet) (L·Printable .parsed)) n m (now (lines .entry) .number + 1) fresh ps (items (now (now (lines .entry) .rest)))) r
+            (now (lines .exit) .number) (now (now (lines .exit) .rest)) (Holds (L·Letter .alphabet) n m (now (list .exit)))) ⌝ }
 {
     let mut form = Form::new();
     while let Some(line) = lines.next_line() {

@@ -19,7 +19,7 @@ use Rattle.listlaw.proofs.States.{states-push}
 use Rattle.lists.specs.declared.record.Record.{Record}
 use Rattle.lists.specs.Names.{names}
 use Rattle.lists.specs.Lists.{columns, Lists}
-use Rattle.lists.specs.Taking.{Roomy, Holds, full, cause}
+use Rattle.lists.specs.Taking.{Roomy, Holding, full, cause}
 
 module _ {K : Type 0} (A : Alphabet K) where
   pub coded-push : (ps : List (List K)) (p : List K) → coded A (ps ++ (p ∷ [])) ≡ coded A ps ++ (map (A .number) p ∷ [])
@@ -31,29 +31,31 @@ module _ {K : Type 0} (A : Alphabet K) where
       let d = le-div (A .size) (length words) 512 (omega arith) (omega (arith, roomy .1)) in
       omega (arith, numbered .few)
 
-  module _ (ns : List Record) (words : List ℕ) (used taken longest : ℕ) (ps : List (List K)) (holds : Holds A ns words used taken longest ps) (p : List K) where
+  module _ (n m : ℕ) (ns : List Record) (words : List ℕ) (used taken longest : ℕ) (ps : List (List K)) (holds : Holding A n m ns words used taken longest ps) (p : List K) where
     count : taken ≡ length ps
     count = holds .lists .count ∙ length-map ps (map (A .number))
 
     full-is : (leb 64 taken || ltb 512 (length (gather (names ns used) (fronts (map (A .number) p))))) ≡ full A ps p
     full-is =
-        ap (λ (n : ℕ). leb 64 n || ltb 512 (length (gather (names ns used) (fronts (map (A .number) p))))) count
+        ap (λ (k : ℕ). leb 64 k || ltb 512 (length (gather (names ns used) (fronts (map (A .number) p))))) count
         ∙ ap (λ (ws : List Word). leb 64 (length ps) || ltb 512 (length ws)) (ap (λ (l : List Word). gather l (fronts (map (A .number) p))) (holds .lists .names) ∙ sym (states-push (coded A ps) (map (A .number) p)) ∙ ap states (sym (coded-push ps p)))
 
-    module _ (roomy : Roomy A (length ns) (length words)) (some : 1 ≤ length p) (short : length p ≤ 12) where
-      rest : cause A (length ns) (length words) ps p ≡ cond (full A ps p) (Some (full-list (length ps))) None
+    module _ (roomy : Roomy A n m) (some : 1 ≤ length p) (short : length p ≤ 12) where
+      rest : cause A n m ps p ≡ cond (full A ps p) (Some (full-list (length ps))) None
       rest =
-          cond-false (ltb (length ns) 512 || ltb (length words) (512 * A .size)) _ _ (or-from (ltb (length ns) 512) (ltb (length words) (512 * A .size)) (le-ltb (length ns) 512 (roomy .0)) (le-ltb (length words) (512 * A .size) (roomy .1)))
+          cond-false (ltb n 512 || ltb m (512 * A .size)) _ _ (or-from (ltb n 512) (ltb m (512 * A .size)) (le-ltb n 512 (roomy .0)) (le-ltb m (512 * A .size) (roomy .1)))
           ∙ cond-false (eqb (length p) 0 || ltb 12 (length p)) _ _ (or-from (eqb (length p) 0) (ltb 12 (length p)) (ne-eqb (length p) 0 (λ e. omega arith)) (le-ltb 12 (length p) short))
 
-      pub cause-full : (leb 64 taken || ltb 512 (length (gather (names ns used) (fronts (map (A .number) p))))) ≡ true → Some (full-list taken) ≡ cause A (length ns) (length words) ps p
-      cause-full f = ap (λ (n : ℕ). Some (full-list n)) count ∙ sym (rest ∙ cond-true (full A ps p) _ _ (sym full-is ∙ f))
+      pub cause-full : (leb 64 taken || ltb 512 (length (gather (names ns used) (fronts (map (A .number) p))))) ≡ true → Some (full-list taken) ≡ cause A n m ps p
+      cause-full f = ap (λ (k : ℕ). Some (full-list k)) count ∙ sym (rest ∙ cond-true (full A ps p) _ _ (sym full-is ∙ f))
 
-      pub cause-none : (leb 64 taken || ltb 512 (length (gather (names ns used) (fronts (map (A .number) p))))) ≡ false → None ≡ cause A (length ns) (length words) ps p
+      pub cause-none : (leb 64 taken || ltb 512 (length (gather (names ns used) (fronts (map (A .number) p))))) ≡ false → None ≡ cause A n m ps p
       cause-none f = sym (rest ∙ cond-false (full A ps p) _ _ (sym full-is ∙ f))
 
-      pub holds-more : (ns′ : List Record) (words′ : List ℕ) (used′ taken′ longest′ : ℕ) → length ns′ ≡ length ns → words′ ≡ words → Lists ns′ used′ taken′ longest′ (coded A ps ++ (map (A .number) p ∷ [])) → Holds A ns′ words′ used′ taken′ longest′ (ps ++ (p ∷ []))
-      holds-more ns′ words′ used′ taken′ longest′ n w l = record {
+      pub holds-more : (ns′ : List Record) (words′ : List ℕ) (used′ taken′ longest′ : ℕ) → length ns′ ≡ length ns → words′ ≡ words → Lists ns′ used′ taken′ longest′ (coded A ps ++ (map (A .number) p ∷ [])) → Holding A n m ns′ words′ used′ taken′ longest′ (ps ++ (p ∷ []))
+      holds-more ns′ words′ used′ taken′ longest′ d w l = record {
+        deep = d ∙ holds .deep;
+        broad = ap length w ∙ holds .broad;
         lists = subst (Lists ns′ used′ taken′ longest′) (sym (coded-push ps p)) l;
-        wide = λ h. (omega (arith, roomy .0), omega (arith, roomy .1, ap length w));
+        wide = λ h. roomy;
       }

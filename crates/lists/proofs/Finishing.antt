@@ -21,7 +21,7 @@ use Rattle.listlaw.proofs.Laws.{table-means}
 use Rattle.lists.specs.declared.record.Record.{Record}
 use Rattle.lists.specs.Names.{rec, names, Trie}
 use Rattle.lists.specs.Lists.{bit, columns, Lists, Held}
-use Rattle.lists.specs.Taking.{Roomy, Holds}
+use Rattle.lists.specs.Taking.{Roomy, Holding}
 use Rattle.lists.specs.Links.{Before, Shape, Endings}
 use Rattle.lists.specs.Finished.{stop-at, goes-to, listed-model}
 use Rattle.lists.proofs.Spelling.{length-names}
@@ -87,7 +87,7 @@ module _ (old ns : List Record) (words : List ℕ) (used taken longest′ : ℕ)
   }
 
 -- what a list means once it is finished
-module _ {K : Type 0} (A : Alphabet K) (numbered : Numbered A) (old : List Record) (first : List ℕ) (used taken longest′ : ℕ) (ps : List (List K)) (holds : Holds A old first used taken longest′ ps) where
+module _ {K : Type 0} (A : Alphabet K) (numbered : Numbered A) (n m : ℕ) (old : List Record) (first : List ℕ) (used taken longest′ : ℕ) (ps : List (List K)) (holds : Holding A n m old first used taken longest′ ps) where
   pub count-held : taken ≡ length ps
   count-held = holds .lists .count ∙ length-map ps (map (A .number))
 
@@ -100,5 +100,5 @@ module _ {K : Type 0} (A : Alphabet K) (numbered : Numbered A) (old : List Recor
   pub finished-means : 1 ≤ taken → (ns : List Record) (words : List ℕ) → length words ≡ length first → Right (coded A ps) used (columns words) (stop-at ns (columns words) taken) (goes-to words taken) → Means A (listed-model (A .number) ns words used (columns words) taken (longest′ - 1)) ps
   finished-means some ns words same right =
       let wide = holds .wide (omega (arith, count-held)) in
-      let d = le-div (A .size) (length words) 512 (omega arith) (omega (arith, wide .1)) in
-      table-means A numbered ps used (columns words) (stop-at ns (columns words) taken) (goes-to words taken) (longest′ - 1) (omega (arith, numbered .few)) right (ap (λ (n : ℕ). n - 1) (holds .lists .extent))
+      let d = le-div (A .size) (length words) 512 (omega arith) (omega (arith, wide .1, holds .broad)) in
+      table-means A numbered ps used (columns words) (stop-at ns (columns words) taken) (goes-to words taken) (longest′ - 1) (omega (arith, numbered .few)) right (ap (λ (k : ℕ). k - 1) (holds .lists .extent))

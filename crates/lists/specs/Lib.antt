@@ -4,3 +4,5 @@ pub mod Taking
 pub mod Links
 pub mod Finished
 pub mod Reading
+pub mod History
+pub mod Meaning

@@ -1,7 +1,7 @@
 -- What a list has taken, and when it refuses a pattern. Assumes nothing.
 --
---   Holds A .. ps   the list has taken the patterns ps over the letters of A, and no others, in this order
---   cause A n m ps p   why a list that has taken ps, on n records and m words, refuses p, if it does
+--   Holding A n m .. ps   the list, on n records and m words, has taken the patterns ps over the letters of A, no others and in this order
+--   cause A n m ps p   why a list on n records and m words that has taken ps refuses p, if it does
 --   refused r       the fault in a result, if there is one
 --   taking r ps p   the patterns taken after p was answered by r
 use mathlib.Core.Path.{_≡_}
@@ -25,10 +25,12 @@ use Rattle.lists.specs.Lists.{Lists}
 abbrev pub Roomy : {K : Type 0} → Alphabet K → ℕ → ℕ → Type 0
 Roomy A n m = (512 ≤ n) × (512 * A .size ≤ m)
 
-pub record Holds {K : Type 0} (A : Alphabet K) (ns : List Record) (words : List ℕ) (used taken longest : ℕ) (ps : List (List K)) : Type 0 where
+pub record Holding {K : Type 0} (A : Alphabet K) (n m : ℕ) (ns : List Record) (words : List ℕ) (used taken longest : ℕ) (ps : List (List K)) : Type 0 where
+  pub deep : length ns ≡ n
+  pub broad : length words ≡ m
   pub lists : Lists ns used taken longest (coded A ps)
   -- only tables that are long enough take a pattern
-  pub wide : 1 ≤ length ps → Roomy A (length ns) (length words)
+  pub wide : 1 ≤ length ps → Roomy A n m
 
 -- a 65th pattern, or a 513th distinct proper prefix of the patterns
 abbrev pub full : {K : Type 0} → Alphabet K → List (List K) → List K → Bool

@@ -8,9 +8,10 @@ ghost use Rattle.listlaw.specs.Patterns.{Word, longest};
 ghost use Rattle.lists.specs.Names.{rec, names, Trie, Under};
 ghost use Rattle.lists.specs.Lists.{columns as columnsOf};
 ghost use Rattle.lists.specs.Links.{tied, Shape, Endings, Others, Planted};
+use crate::builder::STATES;
 use crate::record::Record;
 
-const STATES: usize = 512;
+
 
 // How many letters the words have room for, 32 at most.
 pub fn columns(words: &[u16]) -> usize

@@ -7,10 +7,11 @@ ghost use Rattle.std.specs.Results.{Cases};
 ghost use Rattle.std.specs.declared.option.Option.the-variants.{Some, None};
 ghost use Rattle.faults.specs.Causes.{no-letter};
 ghost use Rattle.texts.specs.Texts.{reading, stray, spelled};
+use crate::builder::LETTERS;
 use faults::Fault;
 use letters::Printable;
 
-const LETTERS: usize = 12;
+
 
 // The numbers of the letters that `bytes` read as, of the first 12 if there are more. Every byte has to be a letter.
 pub fn read<L: Printable>(bytes: &[u8]) -> Result<[u8; 12], Fault>

@@ -5,7 +5,7 @@ pub returns : need.returns
 returns g c =
     let p = c .args .pattern .now in
     record {
-      cause = λ ps h. c .judge .ensures .cause ps p refl (c .numbers .ensures .word) h;
-      holds = λ ps h. c .judge .ensures .holds ps p refl (c .numbers .ensures .word) h;
+      cause = λ n m ps h. c .judge .ensures .cause n m ps p refl (c .numbers .ensures .word) h;
+      holds = λ n m ps h. c .judge .ensures .holds n m ps p refl (c .numbers .ensures .word) h;
       same = c .judge .ensures .same;
     }

@@ -1,7 +1,6 @@
 use mathlib.Core.Path.{_≡_, refl, sym, ap, _∙_}
 use Rattle.std.specs.declared.option.Option.{Option}
 use Prim.Native.Nat.{ℕ}
-use lib.ListN.{length}
 use Rattle.texts.specs.Texts.{reading, stray, spelled}
 use Rattle.lists.specs.Reading.{stray-cause}
 use Rattle.lists.specs.Taking.{cause}
@@ -17,7 +16,7 @@ returns g c =
     let p = spelled reads bytes in
     let long = length-spelled reads bytes (r .0) in
     record {
-      cause = λ ps h. c .judge .ensures .cause ps p long (r .1) h ∙ sym (ap (λ (o : Option ℕ). stray-cause o (cause A (length (c .args .self .now .records .now)) (length (c .args .self .now .words .now)) ps p)) (r .0));
-      holds = λ ps h. c .judge .ensures .holds ps p long (r .1) h;
+      cause = λ n m ps h. c .judge .ensures .cause n m ps p long (r .1) h ∙ sym (ap (λ (o : Option ℕ). stray-cause o (cause A n m ps p)) (r .0));
+      holds = λ n m ps h. c .judge .ensures .holds n m ps p long (r .1) h;
       same = c .judge .ensures .same;
     }

@@ -19,8 +19,8 @@ pub returns-then-taken-eq0 : need.returns-then-taken-eq0
 returns-then-taken-eq0 g c =
     let b = c .args .self in
     record {
-      means = λ ps h. empty-means (g .L·Letter .alphabet) (g .L·Letter .numbered) (b .records .now) (b .words .now) (b .used) (b .taken) (b .longest) ps h (c .if-taken-eq0 .taken) (b .records .now) (b .words .now);
-      taken = λ ps h. omega (arith, c .if-taken-eq0 .taken, count-held (g .L·Letter .alphabet) (g .L·Letter .numbered) (b .records .now) (b .words .now) (b .used) (b .taken) (b .longest) ps h);
+      means = λ n m ps h. empty-means (g .L·Letter .alphabet) (g .L·Letter .numbered) n m (b .records .now) (b .words .now) (b .used) (b .taken) (b .longest) ps h (c .if-taken-eq0 .taken) (b .records .now) (b .words .now);
+      taken = λ n m ps h. omega (arith, c .if-taken-eq0 .taken, count-held (g .L·Letter .alphabet) (g .L·Letter .numbered) n m (b .records .now) (b .words .now) (b .used) (b .taken) (b .longest) ps h);
     }
 
 pub complete-requires : need.complete-requires
@@ -66,9 +66,9 @@ returns g c =
     let words = c .complete .last .words in
     let some : 1 ≤ b .taken = omega arith in
     record {
-      means = λ ps h.
-          subst (λ (n : ℕ). Means A (listed-model (A .number) ns words (b .used) n (b .taken) (b .longest - 1)) ps) (sym (c .columns-columns .ensures))
-          (finished-means A (g .L·Letter .numbered) (b .records .now) (b .words .now) (b .used) (b .taken) (b .longest) ps h some ns words (c .complete .kept .words)
+      means = λ n m ps h.
+          subst (λ (k : ℕ). Means A (listed-model (A .number) ns words (b .used) k (b .taken) (b .longest - 1)) ps) (sym (c .columns-columns .ensures))
+          (finished-means A (g .L·Letter .numbered) n m (b .records .now) (b .words .now) (b .used) (b .taken) (b .longest) ps h some ns words (c .complete .kept .words)
           (finished-right (b .records .now) ns words (b .used) (b .taken) (b .longest) some (b .fits some) (b .some, b .few, b .below, b .deep, b .apart) (c .complete .ensures .names) (c .complete .ensures .shape) (c .complete .ensures .ends) (coded A ps) (h .lists)));
-      taken = λ ps h. count-held A (g .L·Letter .numbered) (b .records .now) (b .words .now) (b .used) (b .taken) (b .longest) ps h;
+      taken = λ n m ps h. count-held A (g .L·Letter .numbered) n m (b .records .now) (b .words .now) (b .used) (b .taken) (b .longest) ps h;
     }

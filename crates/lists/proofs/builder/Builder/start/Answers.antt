@@ -25,4 +25,4 @@ ghost-result g c =
     (omega arith, (omega arith, (λ i pos h. absurd (omega arith), (λ i pos h. absurd (omega arith), (places-one (c .if-records-ge-STATES .records), (λ h. absurd (omega arith), (λ i pos h. absurd (omega arith), (∣ ([], none) ∣₁, (omega arith, tt)))))))))
 
 pub returns : need.returns
-returns g c = record { lists = lists-none (c .if-records-ge-STATES .records) (bare g (need.at·returns g c .Joined-records-ge-STATES)); wide = λ h. absurd (omega arith) }
+returns g c = record { deep = c .if-records-ge-STATES .kept .records; broad = refl; lists = lists-none (c .if-records-ge-STATES .records) (bare g (need.at·returns g c .Joined-records-ge-STATES)); wide = λ h. absurd (omega arith) }

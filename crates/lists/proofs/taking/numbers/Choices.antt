@@ -2,7 +2,7 @@ use mathlib.Core.Path.{_≡_}
 use mathlib.Core.List.{map}
 use Prim.Native.Nat.{ℕ, _≤_, _<_}
 use lib.ListN.{length, getD, take}
-use Rattle.lists.proofs.builder.numbers.Given as given
+use Rattle.lists.proofs.taking.numbers.Given as given
 
 -- the numbers so far are written
 abbrev pub Inv-loop-i : given.InvT-loop-i

@@ -2,7 +2,7 @@ use mathlib.Core.Path.{ap}
 use Prim.Native.Nat.{ℕ, _/_, _^_}
 use lib.Bits.{and-mask}
 use lib.Dec.{eqb}
-use Rattle.lists.proofs.listed.marked.Needs as need
+use Rattle.lists.proofs.answering.marked.Needs as need
 
 -- the last bit is what is left by 2
 pub returns : need.returns

@@ -6,8 +6,8 @@ use native.Mathlib.Omega.{arith}
 use lib.ListN.{length, getD, set, take, length-set}
 use Rattle.std.proofs.shelf.Lists.{take-more-set, take-more, map-push, take-all, getD-set-same, getD-set-other}
 use Rattle.std.proofs.shelf.Tests.{cases-lt}
-use Rattle.lists.proofs.builder.numbers.Needs as need
-use Rattle.lists.proofs.builder.numbers.Needs.{then-i-lt-LETTERS, else-i-lt-LETTERS}
+use Rattle.lists.proofs.taking.numbers.Needs as need
+use Rattle.lists.proofs.taking.numbers.Needs.{then-i-lt-LETTERS, else-i-lt-LETTERS}
 
 pub loop-i-again : need.loop-i-again
 loop-i-again g c =
