@@ -14,6 +14,8 @@ use Rattle.models.specs.Alphabet.{Alphabet}
 use Rattle.models.specs.Automaton.{Model, Next}
 use Rattle.listlaw.specs.Patterns.{coded, states, memory}
 use Rattle.listlaw.specs.Table.{after, Means}
+use Rattle.lists.specs.Meaning.{listed}
+use Rattle.lists.specs.declared.listed.Listed.{Listed}
 use Rattle.listings.specs.Listings.{list-model}
 
 model-of : {K : Type 0} → ℕ → ℕ → Next K → ℕ → Model K
@@ -35,3 +37,7 @@ module _ {K : Type 0} (A : Alphabet K) (m : Model K) (ps : List (List K)) (means
       ∙ ap (λ s. model-of (length (states (coded A ps))) s (m .next) (m .memory)) first
       ∙ ap (λ n. model-of (length (states (coded A ps))) 0 n (m .memory)) (fun-ext (λ q. fun-ext (λ x. next-is q x)))
       ∙ ap (λ k. model-of (length (states (coded A ps))) 0 (list-model A ps .next) k) (means .kept)
+
+-- the finished list is the automaton of the patterns that it means
+pub listed-is : {K : Type 0} (A : Alphabet K) (s : Listed K) (ps : List (List K)) → Means A (listed A s) ps → listed A s ≡ list-model A ps
+listed-is A s ps means = means-model A (listed A s) ps means refl (λ q x h. rw (le-ltb q (s .used) h))
