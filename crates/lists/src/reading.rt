@@ -14,7 +14,7 @@ use letters::Printable;
 
 
 // The numbers of the letters that `bytes` read as, of the first 12 if there are more. Every byte has to be a letter.
-pub fn read<L: Printable>(bytes: &[u8]) -> Result<[u8; 12], Fault>
+pub(crate) fn read<L: Printable>(bytes: &[u8]) -> Result<[u8; 12], Fault>
     ensures { λ r. ⌜ Cases r
         (λ word. (strange (reading (L·Letter .alphabet) (L·Printable .parsed)) (now (bytes .entry)) ≡ None)
             × (length (now (bytes .entry)) ≤ 12 → take (length (now (bytes .entry))) word ≡ map (L·Letter .alphabet .number) (spelling (reading (L·Letter .alphabet) (L·Printable .parsed)) (now (bytes .entry))))
