@@ -42,8 +42,8 @@ module _ (ps : List Word) where
   ending (c ∷ t) = ⊎-elim
       (λ e. ([], sym (longest-name (states ps) (c ∷ t) e)))
       (λ e.
-          let r = ending t in
-          (c ∷ r .0, ap (λ (v : Word). c ∷ v) (r .1) ∙ ap (λ (i : ℕ). (c ∷ r .0) ++ getD (states ps) i []) (sym (longest-skip (states ps) c t e))))
+      let r = ending t in
+      (c ∷ r .0, ap (λ (v : Word). c ∷ v) (r .1) ∙ ap (λ (i : ℕ). (c ∷ r .0) ++ getD (states ps) i []) (sym (longest-skip (states ps) c t e))))
       (cases-bool (member (states ps) (c ∷ t)))
 
   -- a state that is a suffix is the whole, or a suffix of what follows the first letter

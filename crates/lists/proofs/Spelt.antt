@@ -32,16 +32,16 @@ module _ {K : Type 0} (reads : ℕ → Option K) where
   strange-at (c ∷ xs) b ys e r =
       let rest = strange-at xs b ys (head-none (reads c) (strange reads xs) e) r in
       elim (reads c) as (λ o. strange-or o (strange reads xs) ≡ None → strange-or o (strange reads (xs ++ (b ∷ ys))) ≡ Some (suc (length xs))) [
-        Some x ↦ λ h. ap later rest ∙ ap Some (add-one (length xs))
-      | None ↦ λ h. (let z : _≡_ {A = ℕ} 0 1 = cc in absurd (omega arith))
+        | Some x ↦ λ h. ap later rest ∙ ap Some (add-one (length xs))
+        | None ↦ λ h. (let z : _≡_ {A = ℕ} 0 1 = cc in absurd (omega arith))
       ] e
 
   pub spelling-push : (xs : List ℕ) (b : ℕ) (x : K) → reads b ≡ Some x → spelling reads (xs ++ (b ∷ [])) ≡ spelling reads xs ++ (x ∷ [])
   spelling-push [] b x r = ap (λ (o : Option K). before o []) r
   spelling-push (c ∷ xs) b x r =
       elim (reads c) as (λ o. before o (spelling reads (xs ++ (b ∷ []))) ≡ before o (spelling reads xs) ++ (x ∷ [])) [
-        Some y ↦ ap (λ (l : List K). y ∷ l) (spelling-push xs b x r)
-      | None ↦ spelling-push xs b x r
+        | Some y ↦ ap (λ (l : List K). y ∷ l) (spelling-push xs b x r)
+        | None ↦ spelling-push xs b x r
       ]
 
   -- bytes that are all letters spell as many
@@ -50,8 +50,8 @@ module _ {K : Type 0} (reads : ℕ → Option K) where
   spelling-length (c ∷ xs) e =
       let rest = spelling-length xs (head-none (reads c) (strange reads xs) e) in
       elim (reads c) as (λ o. strange-or o (strange reads xs) ≡ None → length (before o (spelling reads xs)) ≡ suc (length xs)) [
-        Some y ↦ λ h. ap suc rest
-      | None ↦ λ h. (let z : _≡_ {A = ℕ} 0 1 = cc in absurd (omega arith))
+        | Some y ↦ λ h. ap suc rest
+        | None ↦ λ h. (let z : _≡_ {A = ℕ} 0 1 = cc in absurd (omega arith))
       ] e
 
   -- the byte at i is the first that is no letter

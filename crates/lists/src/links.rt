@@ -11,8 +11,6 @@ ghost use Rattle.lists.specs.Links.{tied, Shape, Endings, Others, Planted};
 use crate::builder::STATES;
 use crate::record::Record;
 
-
-
 // How many letters the words have room for, 32 at most.
 pub(crate) fn columns(words: &[u16]) -> usize
     ensures { λ r. ⌜ r ≡ columnsOf (now (words .entry)) ⌝ }
@@ -42,7 +40,11 @@ fn tie(records: &mut [Record], q: usize, link: usize)
 {
     let ends = records[link].ends;
     let record = records[q];
-    records[q] = Record { link: link as u16, ends: record.ends | ends, ..record };
+    records[q] = Record {
+        link: link as u16,
+        ends: record.ends | ends,
+        ..record
+    };
 }
 
 // Lets every letter of q lead where it leads from the state `link`.

@@ -53,7 +53,13 @@ fn reach(records: &mut [Record], used: usize, under: usize, a: u8, depth: u8) ->
     if let Some(j) = child(records, used, under, a) {
         return (j, used);
     }
-    records[used] = Record { parent: under as u16, letter: a, length: depth, link: 0, ends: 0 };
+    records[used] = Record {
+        parent: under as u16,
+        letter: a,
+        length: depth,
+        link: 0,
+        ends: 0,
+    };
     (used, used + 1)
 }
 

@@ -1,4 +1,34 @@
-// Tests of lists at both ends of each range.
+// A user of lists whose contract follows from theirs alone, and tests at both ends of each range.
+ghost use mathlib.Core.Path.{_≡_};
+ghost use mathlib.Core.List.{[]};
+ghost use lib.ListN.{length};
+ghost use Rattle.std.specs.Results.{Cases};
+ghost use Rattle.std.specs.declared.option.Option.the-variants.{Some, None};
+ghost use Rattle.models.specs.Strings.{Occurs};
+ghost use Rattle.lists.specs.Taking.{cause, refused};
+use automata::check;
+use faults::Fault;
+use letters::Letter;
+use lists::Builder;
+use lists::ListedAutomaton;
+use lists::Record;
+
+// Where `text` is stopped by a list of one pattern: nowhere exactly when the pattern does not occur in it.
+pub fn seek<L: Letter>(
+    records: &mut [Record],
+    words: &mut [u16],
+    pattern: &[L],
+    text: &[L],
+) -> Result<Option<usize>, Fault>
+    ensures found { λ r. ⌜ Cases r (λ o. (o ≡ None → Occurs (now (pattern .entry)) (now (text .entry)) → ⊥) × ((Occurs (now (pattern .entry)) (now (text .entry)) → ⊥) → o ≡ None)) (λ _. Unit {0}) ⌝ }
+    ensures refused { λ r. ⌜ refused r ≡ cause (L·Letter .alphabet) (length (now (records .entry))) (length (now (words .entry))) [] (now (pattern .entry)) ⌝ }
+{
+    let mut list: Builder<L> = Builder::start(records, words);
+    list.add(pattern)?;
+    let done = list.finish();
+    Ok(check(&done, text))
+}
+
 #[cfg(test)]
 mod tests {
     use automata::Automaton;
