@@ -89,8 +89,8 @@ pub places-push : (ws : List Word) (v : Word) → Places ws → member ws v ≡ 
 places-push ws v p new i h = ⊎-elim
     (λ lt. ap (place (ws ++ (v ∷ []))) (getD-append-left ws (v ∷ []) [] i lt) ∙ place-left ws (v ∷ []) (getD ws i []) (member-at ws i lt) ∙ p i lt)
     (λ ge.
-        let e : length ws ≡ i = omega (arith, length-push ws v) in
-        ap (place (ws ++ (v ∷ []))) (getD-push ws v [] i e) ∙ place-new ws v new ∙ e)
+    let e : length ws ≡ i = omega (arith, length-push ws v) in
+    ap (place (ws ++ (v ∷ []))) (getD-push ws v [] i e) ∙ place-new ws v new ∙ e)
     (cases-lt i (length ws))
 
 pub places-gather : (vs ws : List Word) → Places ws → Places (gather ws vs)
@@ -106,6 +106,6 @@ gather-at [] ws d i h = refl
 gather-at (v ∷ vs) ws d i h =
     gather-at vs (with ws v) d i (omega (arith, with-length ws v))
     ∙ ⊎-elim
-        (λ e. ap (λ (l : List Word). getD l i d) (with-old ws v e))
-        (λ e. ap (λ (l : List Word). getD l i d) (with-new ws v e) ∙ getD-append-left ws (v ∷ []) d i h)
-        (cases-bool (member ws v))
+    (λ e. ap (λ (l : List Word). getD l i d) (with-old ws v e))
+    (λ e. ap (λ (l : List Word). getD l i d) (with-new ws v e) ∙ getD-append-left ws (v ∷ []) d i h)
+    (cases-bool (member ws v))

@@ -40,8 +40,8 @@ module _ (used size : ℕ) (stop : ℕ → ℕ → Bool) (goes : ℕ → ℕ →
       let s = some-is (walk (table-next used stop goes) 0 xs) p in
       let t = some-is (walk (table-next used stop goes) 0 ys) q in
       let same : s .0 ≡ t .0 = ∥∥₁-elim built (ℕ-set _ _) (λ b.
-          let f : Forgets (table-next used stop goes) 0 kept = subst (Forgets (table-next used stop goes) 0) (sym (b .1 .1)) (passing.forgets (b .0) used size stop goes (b .1 .0)) in
-          same-some (sym (s .1) ∙ f xs ys p q h k e ∙ t .1)) in
+      let f : Forgets (table-next used stop goes) 0 kept = subst (Forgets (table-next used stop goes) 0) (sym (b .1 .1)) (passing.forgets (b .0) used size stop goes (b .1 .0)) in
+      same-some (sym (s .1) ∙ f xs ys p q h k e ∙ t .1)) in
       s .1 ∙ ap Some same ∙ sym (t .1)
 
   stays-of : (q a t : ℕ) → table-next used stop goes q a ≡ Some t → t < used

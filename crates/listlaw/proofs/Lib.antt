@@ -5,3 +5,4 @@ pub mod Suffixes
 pub mod Strings
 pub mod Passing
 pub mod Laws
+pub mod Standings

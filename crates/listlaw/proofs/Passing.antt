@@ -78,7 +78,7 @@ module _ (ps : List Word) (used size : ℕ) (stop : ℕ → ℕ → Bool) (goes 
   cleaned s (x ∷ u) c v h =
       let f = first-fine s x (u ++ (c ∷ v)) h in
       let on : Passes (table-next used stop goes) (longest (states ps) (s ++ (x ∷ []))) (u ++ (c ∷ v)) =
-          sym (ap (λ (o : Option ℕ). isSome (bind o (λ t. walk (table-next used stop goes) t (u ++ (c ∷ v))))) (goes-on s x (f .0) (f .1))) ∙ h in
+      sym (ap (λ (o : Option ℕ). isSome (bind o (λ t. walk (table-next used stop goes) t (u ++ (c ∷ v))))) (goes-on s x (f .0) (f .1))) ∙ h in
       subst (λ (w : Word). (c < size) × (hit ps (w ++ (c ∷ [])) ≡ false)) (append-assoc s (x ∷ []) u) (cleaned (s ++ (x ∷ [])) u c v on)
 
   clean-walk : (xs : Word) → Clean xs → walk (table-next used stop goes) 0 xs ≡ Some (longest (states ps) xs)
@@ -97,7 +97,7 @@ module _ (ps : List Word) (used size : ℕ) (stop : ℕ → ℕ → Bool) (goes 
   unfolding Clean Fine
   parts xs ys zs h = clean-pass ys (λ u c v e.
       let long : xs ++ (ys ++ zs) ≡ (xs ++ u) ++ (c ∷ (v ++ zs)) =
-          ap (λ (w : Word). xs ++ (w ++ zs)) e ∙ ap (λ (w : Word). xs ++ w) (append-assoc u (c ∷ v) zs) ∙ sym (append-assoc xs u (c ∷ (v ++ zs))) in
+      ap (λ (w : Word). xs ++ (w ++ zs)) e ∙ ap (λ (w : Word). xs ++ w) (append-assoc u (c ∷ v) zs) ∙ sym (append-assoc xs u (c ∷ (v ++ zs))) in
       let f = pass-clean (xs ++ (ys ++ zs)) h (xs ++ u) c (v ++ zs) long in
       (f .0, never (hit ps (u ++ (c ∷ []))) (λ k. both-ways (hit ps ((xs ++ u) ++ (c ∷ []))) (f .1) (ap (hit ps) (append-assoc xs u (c ∷ [])) ∙ hit-more ps xs (u ++ (c ∷ [])) k))))
 
@@ -111,12 +111,15 @@ module _ (ps : List Word) (used size : ℕ) (stop : ℕ → ℕ → Bool) (goes 
   -- a word of such letters passes exactly when no pattern occurs in it
   pub free-pass : (xs : Word) → ((u : Word) (c : ℕ) (v : Word) → xs ≡ u ++ (c ∷ v) → c < size) → ((p : Word) → member ps p ≡ true → Occurs p xs → ⊥) → Passes (table-next used stop goes) 0 xs
   unfolding Clean Fine
-  free-pass xs small free = clean-pass xs (λ u c v e. (small u c v e, never (hit ps (u ++ (c ∷ []))) (λ k.
-      let f = hit-from ps (u ++ (c ∷ [])) k in
-      let s = f .0 in
-      let p = f .1 .0 in
-      let at : xs ≡ s ++ (p ++ v) = e ∙ sym (append-assoc u (c ∷ []) v) ∙ ap (λ (w : Word). w ++ v) (f .1 .1 .0) ∙ append-assoc s p v in
-      free p (f .1 .1 .1) (s, (v, at)))))
+  free-pass xs small free = clean-pass xs (λ u c v e. (
+    small u c v e,
+    never (hit ps (u ++ (c ∷ []))) (λ k.
+        let f = hit-from ps (u ++ (c ∷ [])) k in
+        let s = f .0 in
+        let p = f .1 .0 in
+        let at : xs ≡ s ++ (p ++ v) = e ∙ sym (append-assoc u (c ∷ []) v) ∙ ap (λ (w : Word). w ++ v) (f .1 .1 .0) ∙ append-assoc s p v in
+        free p (f .1 .1 .1) (s, (v, at))),
+  ))
 
   pub pass-free : (xs : Word) → Passes (table-next used stop goes) 0 xs → (p : Word) → member ps p ≡ true → Occurs p xs → ⊥
   unfolding Clean Fine
@@ -127,7 +130,7 @@ module _ (ps : List Word) (used size : ℕ) (stop : ℕ → ℕ → Bool) (goes 
       let front = l .0 in
       let c = l .1 .0 in
       let at : xs ≡ (x ++ front) ++ (c ∷ y) =
-          o .1 .1 ∙ ap (λ (w : Word). x ++ (w ++ y)) (l .1 .1) ∙ ap (λ (w : Word). x ++ w) (append-assoc front (c ∷ []) y) ∙ sym (append-assoc x front (c ∷ y)) in
+      o .1 .1 ∙ ap (λ (w : Word). x ++ (w ++ y)) (l .1 .1) ∙ ap (λ (w : Word). x ++ w) (append-assoc front (c ∷ []) y) ∙ sym (append-assoc x front (c ∷ y)) in
       let f = pass-clean xs h (x ++ front) c y at in
       let own : (x ++ front) ++ (c ∷ []) ≡ x ++ p = append-assoc x front (c ∷ []) ∙ ap (λ (w : Word). x ++ w) (sym (l .1 .1)) in
       both-ways (hit ps ((x ++ front) ++ (c ∷ []))) (f .1) (ap (hit ps) own ∙ hit-end ps x p m)
@@ -135,12 +138,12 @@ module _ (ps : List Word) (used size : ℕ) (stop : ℕ → ℕ → Bool) (goes 
   pub stays : (q a t : ℕ) → table-next used stop goes q a ≡ Some t → t < used
   stays q a t e = ⊎-elim
       (λ h. ⊎-elim
-          (λ l. ⊎-elim
-              (λ k. absurd (none-some (sym (next-is q a h l ∙ ap (λ (b : Bool). cond b None (Some (longest (states ps) (getD (states ps) q [] ++ (a ∷ []))))) k) ∙ e)))
-              (λ k. let is : longest (states ps) (getD (states ps) q [] ++ (a ∷ [])) ≡ t = some-some (sym (next-is q a h l ∙ ap (λ (b : Bool). cond b None (Some (longest (states ps) (getD (states ps) q [] ++ (a ∷ []))))) k) ∙ e) in omega (arith, is, inside (getD (states ps) q [] ++ (a ∷ []))))
-              (cases-bool (hit ps (getD (states ps) q [] ++ (a ∷ [])))))
-          (λ g. absurd (none-some (sym (strange q a h g) ∙ e)))
-          (cases-lt a size))
+      (λ l. ⊎-elim
+      (λ k. absurd (none-some (sym (next-is q a h l ∙ ap (λ (b : Bool). cond b None (Some (longest (states ps) (getD (states ps) q [] ++ (a ∷ []))))) k) ∙ e)))
+      (λ k. let is : longest (states ps) (getD (states ps) q [] ++ (a ∷ [])) ≡ t = some-some (sym (next-is q a h l ∙ ap (λ (b : Bool). cond b None (Some (longest (states ps) (getD (states ps) q [] ++ (a ∷ []))))) k) ∙ e) in omega (arith, is, inside (getD (states ps) q [] ++ (a ∷ []))))
+      (cases-bool (hit ps (getD (states ps) q [] ++ (a ∷ [])))))
+      (λ g. absurd (none-some (sym (strange q a h g) ∙ e)))
+      (cases-lt a size))
       (λ g. absurd (none-some (sym (off g) ∙ e)))
       (cases-lt q used)
     where

@@ -38,9 +38,9 @@ front-from [] w h = absurd (both-ways false refl h)
 front-from (x ∷ p) w h = ⊎-elim
     (λ e. (x, (p, ap (λ (t : Word). t ++ (x ∷ p)) (same-eq [] w e))))
     (λ e.
-        let u = under-from x (fronts p) w e in
-        let f = front-from p (u .0) (u .2) in
-        (f .0, (f .1 .0, ap (λ (t : Word). x ∷ t) (f .1 .1) ∙ ap (λ (t : Word). t ++ (f .0 ∷ f .1 .0)) (sym (u .1)))))
+    let u = under-from x (fronts p) w e in
+    let f = front-from p (u .0) (u .2) in
+    (f .0, (f .1 .0, ap (λ (t : Word). x ∷ t) (f .1 .1) ∙ ap (λ (t : Word). t ++ (f .0 ∷ f .1 .0)) (sym (u .1)))))
     (or-cases (same [] w) (member (map (λ w. x ∷ w) (fronts p)) w) h)
 
 front-in : (w : Word) (c : ℕ) (rest : Word) → member (fronts (w ++ (c ∷ rest))) w ≡ true
@@ -156,9 +156,9 @@ module _ (ws : List Word) (p : Word) where
       let f : k + 1 + d ≡ m = omega arith in
       let long = length-take-le m p (omega arith) in
       let out : member (gather ws (fronts (take m p))) (take m p) ≡ false = never (member (gather ws (fronts (take m p))) (take m p)) (λ t. ⊎-elim
-          (λ a. both-ways (member ws (take (k + 1) p)) new (closed-take closed (k + 1) d (omega arith) (ap (λ (n : ℕ). member ws (take n p)) f ∙ a)))
-          (λ a. let r = front-from (take m p) (take m p) a in omega (arith, ap length (r .1 .1), length-append (take m p) (r .0 ∷ r .1 .0)))
-          (gather-cases (fronts (take m p)) ws (take m p) t)) in
+      (λ a. both-ways (member ws (take (k + 1) p)) new (closed-take closed (k + 1) d (omega arith) (ap (λ (n : ℕ). member ws (take n p)) f ∙ a)))
+      (λ a. let r = front-from (take m p) (take m p) a in omega (arith, ap length (r .1 .1), length-append (take m p) (r .0 ∷ r .1 .0)))
+      (gather-cases (fronts (take m p)) ws (take m p) t)) in
       omega (arith, ap (λ (n : ℕ). length (gather ws (fronts (take n p)))) e, ap length (gather-more ws p m (omega arith)), ap length (with-new (gather ws (fronts (take m p))) (take m p) out), length-push (gather ws (fronts (take m p))) (take m p), gather-missing closed k known new d (omega arith))
 
   -- fewer prefixes bring no more states

@@ -28,9 +28,17 @@ same-tail e = cc
 
 module _ {K : Type 0} (f : K → ℕ) where
   map-cut : (xs : List K) (a b : Word) → map f xs ≡ a ++ b → (ys : List K) × ((zs : List K) × ((xs ≡ ys ++ zs) × (map f ys ≡ a) × (map f zs ≡ b)))
-  map-cut xs a b e = (take (length a) xs, (drop (length a) xs, (sym (take-append-drop (length a) xs),
-      sym (take-map f (length a) xs) ∙ ap (take (length a)) e ∙ take-at a b (length a) refl,
-      sym (drop-map f (length a) xs) ∙ ap (drop (length a)) e ∙ drop-at a b (length a) refl)))
+  map-cut xs a b e = (
+    take (length a) xs,
+    (
+      drop (length a) xs,
+      (
+        sym (take-append-drop (length a) xs),
+        sym (take-map f (length a) xs) ∙ ap (take (length a)) e ∙ take-at a b (length a) refl,
+        sym (drop-map f (length a) xs) ∙ ap (drop (length a)) e ∙ drop-at a b (length a) refl,
+      ),
+    ),
+  )
 
   map-apart : ((x y : K) → f x ≡ f y → x ≡ y) → (xs ys : List K) → map f xs ≡ map f ys → xs ≡ ys
   map-apart apart [] [] e = refl

@@ -52,9 +52,9 @@ module _ (ws : List Word) (root : member ws [] ≡ true) where
       off (a ∷ t) e =
           let out : member ws ((a ∷ t) ++ (c ∷ [])) ≡ false = never (member ws ((a ∷ t) ++ (c ∷ []))) (λ m. both-ways (member ws (a ∷ t)) e (closed (a ∷ t) c m)) in
           let rest : longest ws (t ++ (c ∷ [])) ≡ longest ws (getD ws (longest ws t) [] ++ (c ∷ [])) = ⊎-elim
-              (λ k. ap (λ (w : Word). longest ws (w ++ (c ∷ []))) (sym (longest-name ws t k)))
-              (λ k. off t k)
-              (cases-bool (member ws t)) in
+          (λ k. ap (λ (w : Word). longest ws (w ++ (c ∷ []))) (sym (longest-name ws t k)))
+          (λ k. off t k)
+          (cases-bool (member ws t)) in
           longest-skip ws a (t ++ (c ∷ [])) out ∙ rest ∙ ap (λ (i : ℕ). longest ws (getD ws i [] ++ (c ∷ []))) (sym (longest-skip ws a t e))
 
   -- and every pattern that ends there
@@ -69,9 +69,9 @@ module _ (ws : List Word) (root : member ws [] ≡ true) where
       off (a ∷ t) e =
           let out : member ps ((a ∷ t) ++ (c ∷ [])) ≡ false = never (member ps ((a ∷ t) ++ (c ∷ []))) (λ m. both-ways (member ws (a ∷ t)) e (fronted (a ∷ t) c m)) in
           let rest : hit ps (t ++ (c ∷ [])) ≡ hit ps (getD ws (longest ws t) [] ++ (c ∷ [])) = ⊎-elim
-              (λ k. ap (λ (w : Word). hit ps (w ++ (c ∷ []))) (sym (longest-name ws t k)))
-              (λ k. off t k)
-              (cases-bool (member ws t)) in
+          (λ k. ap (λ (w : Word). hit ps (w ++ (c ∷ []))) (sym (longest-name ws t k)))
+          (λ k. off t k)
+          (cases-bool (member ws t)) in
           ap (λ (b : Bool). b || hit ps (t ++ (c ∷ []))) out ∙ rest ∙ ap (λ (i : ℕ). hit ps (getD ws i [] ++ (c ∷ []))) (sym (longest-skip ws a t e))
 
 -- only the last letters count, as many as the longest state has
@@ -79,9 +79,9 @@ pub longest-last : (ws : List Word) (m : ℕ) → ((w : Word) → member ws w �
 longest-last ws m short [] = ap (longest ws) (sym (drop-all (length {A = ℕ} [] - m) [] (omega arith)))
 longest-last ws m short (c ∷ t) = ⊎-elim
     (λ lt.
-        let e : suc (length t) - m ≡ suc (length t - m) = omega arith in
-        let out : member ws (c ∷ t) ≡ false = never (member ws (c ∷ t)) (λ h. omega (arith, short (c ∷ t) h)) in
-        longest-skip ws c t out ∙ longest-last ws m short t ∙ ap (λ (n : ℕ). longest ws (drop n (c ∷ t))) (sym e))
+    let e : suc (length t) - m ≡ suc (length t - m) = omega arith in
+    let out : member ws (c ∷ t) ≡ false = never (member ws (c ∷ t)) (λ h. omega (arith, short (c ∷ t) h)) in
+    longest-skip ws c t out ∙ longest-last ws m short t ∙ ap (λ (n : ℕ). longest ws (drop n (c ∷ t))) (sym e))
     (λ ge. let e : suc (length t) - m ≡ 0 = omega arith in ap (λ (n : ℕ). longest ws (drop n (c ∷ t))) (sym e))
     (cases-lt m (suc (length t)))
 

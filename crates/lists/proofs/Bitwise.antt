@@ -31,11 +31,11 @@ pub bit-pow : (c a : ℕ) → bit (2 ^ c) a ≡ eqb c a
 bit-pow c a = ⊎-elim
     (λ e. ap (λ (k : ℕ). bit (2 ^ k) a) e ∙ ap (λ (k : ℕ). eqb (k % 2) 1) (div-self (pow-pos a)) ∙ sym (eq-eqb c a e))
     (⊎-elim
-        (λ l. ap (λ (k : ℕ). eqb (k % 2) 1) (div-eq-of-lt (pow-below c a l)) ∙ sym (ne-eqb c a (λ e. omega arith)))
-        (λ l.
-            let d : ℕ = c - a - 1 in
-            let e : suc d + a ≡ c = omega arith in
-            let q : 2 ^ c / 2 ^ a ≡ 2 ^ d * 2 =
-                ap (λ (k : ℕ). 2 ^ k / 2 ^ a) (sym e) ∙ ap (λ (k : ℕ). k / 2 ^ a) (pow-add 2 (suc d) a) ∙ mul-div-cancel (2 ^ suc d) (pow-pos a) ∙ pow-suc 2 d in
-            ap (λ (k : ℕ). eqb (k % 2) 1) q ∙ ap (λ (k : ℕ). eqb k 1) (mul-mod-left (2 ^ d) 2) ∙ sym (ne-eqb c a (λ f. omega arith))))
+    (λ l. ap (λ (k : ℕ). eqb (k % 2) 1) (div-eq-of-lt (pow-below c a l)) ∙ sym (ne-eqb c a (λ e. omega arith)))
+    (λ l.
+    let d : ℕ = c - a - 1 in
+    let e : suc d + a ≡ c = omega arith in
+    let q : 2 ^ c / 2 ^ a ≡ 2 ^ d * 2 =
+    ap (λ (k : ℕ). 2 ^ k / 2 ^ a) (sym e) ∙ ap (λ (k : ℕ). k / 2 ^ a) (pow-add 2 (suc d) a) ∙ mul-div-cancel (2 ^ suc d) (pow-pos a) ∙ pow-suc 2 d in
+    ap (λ (k : ℕ). eqb (k % 2) 1) q ∙ ap (λ (k : ℕ). eqb k 1) (mul-mod-left (2 ^ d) 2) ∙ sym (ne-eqb c a (λ f. omega arith))))
     (cases-order c a)

@@ -33,8 +33,7 @@ module _ (ns : List Record) (used : ℕ) (fits : used ≤ length ns) (trie : Tri
       }
 
   module _ (lt : under < used) (none : (j : ℕ) → 0 < j → j < used → rec ns j .parent ≡ under → rec ns j .letter ≡ a → ⊥) (room : used < 512) (more : used < length ns) (n : Record)
-    (up : n .parent ≡ under) (by : n .letter ≡ a) (deep : n .length ≡ length (getD (names ns used) under []) + 1) (bare : n .ends ≡ 0) where
-
+      (up : n .parent ≡ under) (by : n .letter ≡ a) (deep : n .length ≡ length (getD (names ns used) under []) + 1) (bare : n .ends ≡ 0) where
     new : member (names ns used) (getD (names ns used) under [] ++ (a ∷ [])) ≡ false
     new = child-none ns used fits trie under a lt none
 
@@ -69,9 +68,9 @@ module _ (ns : List Record) (used : ℕ) (fits : used ≤ length ns) (trie : Tri
     lengths i pos h = ⊎-elim
         (λ l. ap (λ (m : Record). m .length) (kept i l) ∙ trie .3 i pos l ∙ ap length (sym (word-kept i l)))
         (λ e.
-            let it : rec (set ns used n) used .length ≡ length (getD (names (set ns used n) (used + 1)) used []) =
-                ap (λ (m : Record). m .length) here ∙ deep ∙ sym (ap length word-new ∙ length-push (getD (names ns used) under []) a) in
-            subst (λ (k : ℕ). rec (set ns used n) k .length ≡ length (getD (names (set ns used n) (used + 1)) k [])) (sym e) it)
+        let it : rec (set ns used n) used .length ≡ length (getD (names (set ns used n) (used + 1)) used []) =
+        ap (λ (m : Record). m .length) here ∙ deep ∙ sym (ap length word-new ∙ length-push (getD (names ns used) under []) a) in
+        subst (λ (k : ℕ). rec (set ns used n) k .length ≡ length (getD (names (set ns used n) (used + 1)) k [])) (sym e) it)
         (at-new i h)
 
     letters : (m : ℕ) → Under m ns used → a < m → Under m (set ns used n) (used + 1)
@@ -92,9 +91,10 @@ module _ (ns : List Record) (used : ℕ) (fits : used ≤ length ns) (trie : Tri
     }
 
 fresh-more : (old ns more : List Record) (used count last : ℕ) → used ≤ count → Fresh old ns used count → Fresh ns more count last → Fresh old more used last
-fresh-more old ns more used count last le a b =
-    (λ i h. b .0 i (omega arith) ∙ a .0 i h,
-     λ i ge h. ⊎-elim (λ l. ap (λ (m : Record). m .ends) (b .0 i l) ∙ a .1 i ge l) (λ g. b .1 i g h) (cases-lt i count))
+fresh-more old ns more used count last le a b = (
+  λ i h. b .0 i (omega arith) ∙ a .0 i h,
+  λ i ge h. ⊎-elim (λ l. ap (λ (m : Record). m .ends) (b .0 i l) ∙ a .1 i ge l) (λ g. b .1 i g h) (cases-lt i count),
+)
 
 module _ (old : List Record) (used : ℕ) (fits : used ≤ length old) (trie : Trie old used) (w : Word) (some : 1 ≤ length w) where
   root : member (names old used) [] ≡ true

@@ -53,8 +53,8 @@ some-longest ns used taken longest held h = ∥∥₁-elim held le-prop (λ b. o
 
 -- the tables as they were and as they are finished
 module _ (old ns : List Record) (words : List ℕ) (used taken longest′ : ℕ) (some : 1 ≤ taken) (room : 512 ≤ length old) (trie : Trie old used)
-  (kept : names ns used ≡ names old used) (shape : Shape ns words used longest′ 1)
-  (ends : (ps : List Word) → Endings old used 1 1 ps → Endings ns used longest′ 1 ps) (ps : List Word) (lists : Lists old used taken longest′ ps) where
+    (kept : names ns used ≡ names old used) (shape : Shape ns words used longest′ 1)
+    (ends : (ps : List Word) → Endings old used 1 1 ps → Endings ns used longest′ 1 ps) (ps : List Word) (lists : Lists old used taken longest′ ps) where
   endings : Endings ns used longest′ 1 ps
   endings = ends ps (first-endings old used (omega (arith, trie .1)) trie ps (lists .names) (lists .solid) (lists .marks room))
 

@@ -58,8 +58,8 @@ module _ (ns : List Record) (used : ℕ) (fits : used ≤ length ns) (trie : Tri
   pub first-only : (q : ℕ) → q < used → Before (names ns used) 1 1 q → q ≡ 0
   first-only q l b = ⊎-elim
       (λ h.
-          let e : getD (names ns used) q [] ≡ [] = nil-from-length (getD (names ns used) q []) (omega arith) in
-          sym (place-of ns used fits trie q l [] e .1) ∙ place-of ns used fits trie 0 (trie .0) [] (names-first ns used) .1)
+      let e : getD (names ns used) q [] ≡ [] = nil-from-length (getD (names ns used) q []) (omega arith) in
+      sym (place-of ns used fits trie q l [] e .1) ∙ place-of ns used fits trie 0 (trie .0) [] (names-first ns used) .1)
       (λ h. omega (arith, h .1))
       b
 

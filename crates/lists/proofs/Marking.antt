@@ -46,16 +46,19 @@ rec-set f ns q n room e i = go (ℕ-discrete i q)
 
 module _ (ns : List Record) (used q : ℕ) (n : Record) (room : q < length ns) (p : n .parent ≡ rec ns q .parent) (l : n .letter ≡ rec ns q .letter) (d : n .length ≡ rec ns q .length) where
   pub trie-set : Trie ns used → Trie (set ns q n) used
-  trie-set trie = (trie .0, trie .1,
-      (λ i pos h. omega (arith, trie .2 i pos h, rec-set (λ (m : Record). m .parent) ns q n room p i)),
-      (λ i pos h. rec-set (λ (m : Record). m .length) ns q n room d i ∙ trie .3 i pos h ∙ ap (λ (ws : List Word). length (getD ws i [])) (sym (names-set n ns used q p l))),
-      subst Places (sym (names-set n ns used q p l)) (trie .4))
+  trie-set trie = (
+    trie .0,
+    trie .1,
+    (λ i pos h. omega (arith, trie .2 i pos h, rec-set (λ (m : Record). m .parent) ns q n room p i)),
+    (λ i pos h. rec-set (λ (m : Record). m .length) ns q n room d i ∙ trie .3 i pos h ∙ ap (λ (ws : List Word). length (getD ws i [])) (sym (names-set n ns used q p l))),
+    subst Places (sym (names-set n ns used q p l)) (trie .4),
+  )
 
   pub under-set : (m : ℕ) → Under m ns used → Under m (set ns q n) used
   under-set m u i pos h = omega (arith, u i pos h, rec-set (λ (m : Record). m .letter) ns q n room l i)
 
 module _ (old ns : List Record) (used : ℕ) (w : Word) (at more : ℕ) (some : 1 ≤ length w) (fits : used ≤ length old) (trie : Trie old used) (in′ : more ≤ length ns)
-  (e : Entered old ns used w (length w - 1) at more) where
+    (e : Entered old ns used w (length w - 1) at more) where
   last : ℕ
   last = getD w (length w - 1) 0
 
@@ -94,14 +97,14 @@ module _ (old ns : List Record) (used : ℕ) (w : Word) (at more : ℕ) (some : 
     before far q a h l = ⊎-elim
         (λ lt. ap (λ (m : Record). bit (m .ends) a) (e .fresh .0 q lt) ∙ lists .marks far q a lt l ∙ ap (λ (v : Word). member ps (v ++ (a ∷ []))) (sym (same-word q lt)))
         (λ ge.
-            let v : Word = getD (names ns more) q [] in
-            let none : member ps (v ++ (a ∷ [])) ≡ false = never (member ps (v ++ (a ∷ []))) (λ m.
-                let st : member (names old used) v ≡ true = ap (λ (l : List Word). member l v) (lists .names) ∙ states-fronted ps v a m in
-                let s = state-of old used fits trie v st in
-                let i : ℕ = place (names old used) v in
-                let is : i ≡ q = sym (place-of ns more in′ (e .trie) i (omega (arith, s .0, e .grows)) v (same-word i (s .0) ∙ s .1) .1) ∙ place-of ns more in′ (e .trie) q h v refl .1 in
-                omega (arith, s .0)) in
-            ap (λ (m : ℕ). bit m a) (e .fresh .1 q ge h) ∙ bit-zero a ∙ sym none)
+        let v : Word = getD (names ns more) q [] in
+        let none : member ps (v ++ (a ∷ [])) ≡ false = never (member ps (v ++ (a ∷ []))) (λ m.
+        let st : member (names old used) v ≡ true = ap (λ (l : List Word). member l v) (lists .names) ∙ states-fronted ps v a m in
+        let s = state-of old used fits trie v st in
+        let i : ℕ = place (names old used) v in
+        let is : i ≡ q = sym (place-of ns more in′ (e .trie) i (omega (arith, s .0, e .grows)) v (same-word i (s .0) ∙ s .1) .1) ∙ place-of ns more in′ (e .trie) q h v refl .1 in
+        omega (arith, s .0)) in
+        ap (λ (m : ℕ). bit m a) (e .fresh .1 q ge h) ∙ bit-zero a ∙ sym none)
         (cases-lt q used)
 
     -- and with the new one

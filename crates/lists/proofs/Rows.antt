@@ -37,8 +37,8 @@ pub inherit-more : (old words : List ℕ) (a q link : ℕ) → q < 512 → link 
 inherit-more old words a q link h l ne room row others b lt = ⊎-elim
     (λ k. write-letter words a q (getD words (a * 512 + link) 0) room h b (λ e. omega arith) ∙ row b k)
     (λ k.
-        let e : b ≡ a = omega arith in
-        ap (λ (n : ℕ). getD (set words (a * 512 + q) (getD words (a * 512 + link) 0)) (n * 512 + q) 0) e ∙ write-same words a q (getD words (a * 512 + link) 0) room h ∙ others a link l ne ∙ ap (λ (n : ℕ). getD old (n * 512 + link) 0) (sym e))
+    let e : b ≡ a = omega arith in
+    ap (λ (n : ℕ). getD (set words (a * 512 + q) (getD words (a * 512 + link) 0)) (n * 512 + q) 0) e ∙ write-same words a q (getD words (a * 512 + link) 0) room h ∙ others a link l ne ∙ ap (λ (n : ℕ). getD old (n * 512 + link) 0) (sym e))
     (cases-lt b a)
 
 pub reset-more : (words : List ℕ) (a : ℕ) → a * 512 + 0 < length words → ((b : ℕ) → b < a → getD words (b * 512 + 0) 0 ≡ 0) → (b : ℕ) → b < a + 1 → getD (set words (a * 512 + 0) 0) (b * 512 + 0) 0 ≡ 0

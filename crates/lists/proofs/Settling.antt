@@ -27,9 +27,9 @@ pub row-right : (ns : List Record) (used : ℕ) (fits : used ≤ length ns) (tri
     → getD words (a * 512 + q) 0 ≡ longest (names ns used) (getD (names ns used) q [] ++ (a ∷ []))
 row-right ns used fits trie q a lt old words planted base = ⊎-elim
     (λ h.
-        let w : Word = getD (names ns used) q [] ++ (a ∷ []) in
-        let at = place-of ns used fits trie (h .0) (h .2) w (child-state ns used fits trie q a (h .0) (h .1, h .2, h .3, h .4)) in
-        h .5 ∙ sym (longest-member (names ns used) w (at .0) ∙ at .1))
+    let w : Word = getD (names ns used) q [] ++ (a ∷ []) in
+    let at = place-of ns used fits trie (h .0) (h .2) w (child-state ns used fits trie q a (h .0) (h .1, h .2, h .3, h .4)) in
+    h .5 ∙ sym (longest-member (names ns used) w (at .0) ∙ at .1))
     (λ h. h .1 ∙ base (child-none ns used fits trie q a lt (h .0)))
     planted
 
@@ -49,7 +49,7 @@ root-row ns used fits trie a old words none planted = row-right ns used fits tri
     none ∙ sym (ap (λ (w : Word). longest (names ns used) (w ++ (a ∷ []))) e ∙ longest-skip (names ns used) a [] m′ ∙ root-place ns used fits trie))
 
 module _ (ns : List Record) (words : List ℕ) (used q : ℕ) (pos : 0 < q) (lt : q < used) (shape : Shape ns words used (length (getD (names ns used) q [])) q)
-  (f : ℕ) (link : f ≡ longest (names ns used) (drop 1 (getD (names ns used) q []))) where
+    (f : ℕ) (link : f ≡ longest (names ns used) (drop 1 (getD (names ns used) q []))) where
   fits : used ≤ length ns
   fits = omega (arith, shape .room, shape .trie .1)
 
@@ -101,9 +101,8 @@ module _ (ns : List Record) (words : List ℕ) (used q : ℕ) (pos : 0 < q) (lt 
   later x b = ⊎-elim inl (λ h. inr (h .0, omega (arith, h .1))) b
 
   module _ (mid last : List ℕ) (same-long : length last ≡ length words)
-    (inherited : (a : ℕ) → a < columns words → getD mid (a * 512 + q) 0 ≡ getD words (a * 512 + f) 0) (others : Others words mid q)
-    (planted : (a : ℕ) → a < columns words → Planted (set ns q (tied (rec ns q) f (rec ns f .ends))) mid last q used a) (others′ : Others mid last q) where
-
+      (inherited : (a : ℕ) → a < columns words → getD mid (a * 512 + q) 0 ≡ getD words (a * 512 + f) 0) (others : Others words mid q)
+      (planted : (a : ℕ) → a < columns words → Planted (set ns q (tied (rec ns q) f (rec ns f .ends))) mid last q used a) (others′ : Others mid last q) where
     links : (x : ℕ) → 0 < x → x < used → Before (names ns used) d (q + 1) x → rec (set ns q new) x .link ≡ longest (names ns used) (drop 1 (getD (names ns used) x []))
     links x p l b = go (ℕ-discrete x q)
       where
@@ -114,10 +113,10 @@ module _ (ns : List Record) (words : List ℕ) (used q : ℕ) (pos : 0 < q) (lt 
     own-row : (a : ℕ) → a < columns words → getD last (a * 512 + q) 0 ≡ longest (names ns used) (getD (names ns used) q [] ++ (a ∷ []))
     own-row a h =
         let base : member (names ns used) (getD (names ns used) q [] ++ (a ∷ [])) ≡ false → getD mid (a * 512 + q) 0 ≡ longest (names ns used) (getD (names ns used) q [] ++ (a ∷ [])) = λ m.
-            inherited a h ∙ shape .rows f a link-inside h (inl link-short)
-            ∙ ap (λ (i : ℕ). longest (names ns used) (getD (names ns used) i [] ++ (a ∷ []))) link
-            ∙ sym (longest-step (names ns used) (root ns used fits (shape .trie)) (names-closed ns used fits (shape .trie)) (drop 1 (getD (names ns used) q [])) a)
-            ∙ skip-push (names ns used) (getD (names ns used) q []) a some m in
+        inherited a h ∙ shape .rows f a link-inside h (inl link-short)
+        ∙ ap (λ (i : ℕ). longest (names ns used) (getD (names ns used) i [] ++ (a ∷ []))) link
+        ∙ sym (longest-step (names ns used) (root ns used fits (shape .trie)) (names-closed ns used fits (shape .trie)) (drop 1 (getD (names ns used) q [])) a)
+        ∙ skip-push (names ns used) (getD (names ns used) q []) a some m in
         let right = row-right (set ns q new) used (omega (arith, length-set ns q new, fits)) tied-trie q a lt mid last (planted a h) in
         (subst (λ (ws : List Word). (member ws (getD ws q [] ++ (a ∷ [])) ≡ false → getD mid (a * 512 + q) 0 ≡ longest ws (getD ws q [] ++ (a ∷ []))) → getD last (a * 512 + q) 0 ≡ longest ws (getD ws q [] ++ (a ∷ []))) same right) base
 
@@ -154,9 +153,9 @@ module _ (ns : List Record) (words : List ℕ) (used q : ℕ) (pos : 0 < q) (lt 
         ap (λ (m : Record). bit (m .ends) a) here ∙ bit-or (rec ns q .ends) (rec ns f .ends) a
         ∙ ap (λ (b : Bool). b || bit (rec ns f .ends) a) (e .left q a lt h not-yet)
         ∙ ap (λ (b : Bool). member ps (getD (names ns used) q [] ++ (a ∷ [])) || b)
-            (e .done f a link-inside h (inl link-short)
-            ∙ ap (λ (i : ℕ). hit ps (getD (names ns used) i [] ++ (a ∷ []))) link
-            ∙ sym (hit-step (names ns used) (root ns used fits (shape .trie)) ps fronted (drop 1 (getD (names ns used) q [])) a))
+        (e .done f a link-inside h (inl link-short)
+        ∙ ap (λ (i : ℕ). hit ps (getD (names ns used) i [] ++ (a ∷ []))) link
+        ∙ sym (hit-step (names ns used) (root ns used fits (shape .trie)) ps fronted (drop 1 (getD (names ns used) q [])) a))
         ∙ sym (hit-push ps (getD (names ns used) q []) a some)
 
     done : (x a : ℕ) → x < used → a < 32 → Before (names ns used) d (q + 1) x → bit (rec (set ns q new) x .ends) a ≡ hit ps (getD (names ns used) x [] ++ (a ∷ []))

@@ -59,7 +59,7 @@ module _ (ns : List Record) (used : ℕ) (fits : used ≤ length ns) where
   names-kept : (k i : ℕ) → i < k → k ≤ used → getD (names ns used) i [] ≡ getD (names ns k) i []
   names-kept k i lt le =
       let front : take used ns ≡ take k ns ++ drop k (take used ns) =
-          sym (take-append-drop k (take used ns)) ∙ ap (λ (l : List Record). l ++ drop k (take used ns)) (take-take k used ns le) in
+      sym (take-append-drop k (take used ns)) ∙ ap (λ (l : List Record). l ++ drop k (take used ns)) (take-take k used ns le) in
       let long = length-take-le k ns (omega arith) in
       ap (λ (l : List Record). getD (spelled l) i []) front
       ∙ ap (λ (l : List Word). getD l i []) (spelled-append (take k ns) (drop k (take used ns)) (omega arith))

@@ -12,7 +12,7 @@ use Rattle.models.specs.Automaton.{later}
 use Rattle.texts.specs.Texts.{stray-or, stray, before, spelled}
 
 module _ {K : Type 0} (reads : ℕ → Option K) where
-  -- what comes after a letter is no stray more than before it
+  -- what comes after a letter is no stray byte more than before it
   later-none : (o : Option ℕ) → later o ≡ None → o ≡ None
   later-none None e = refl
   later-none (Some n) e = let z : _≡_ {A = ℕ} 0 1 = cc in absurd (omega arith)
@@ -32,16 +32,16 @@ module _ {K : Type 0} (reads : ℕ → Option K) where
   stray-at (c ∷ xs) b ys e r =
       let rest = stray-at xs b ys (head-none (reads c) (stray reads xs) e) r in
       elim (reads c) as (λ o. stray-or o (stray reads xs) ≡ None → stray-or o (stray reads (xs ++ (b ∷ ys))) ≡ Some (suc (length xs))) [
-        Some x ↦ λ h. ap later rest ∙ ap Some (add-one (length xs))
-      | None ↦ λ h. (let z : _≡_ {A = ℕ} 0 1 = cc in absurd (omega arith))
+        | Some x ↦ λ h. ap later rest ∙ ap Some (add-one (length xs))
+        | None ↦ λ h. (let z : _≡_ {A = ℕ} 0 1 = cc in absurd (omega arith))
       ] e
 
   pub spelled-push : (xs : List ℕ) (b : ℕ) (x : K) → reads b ≡ Some x → spelled reads (xs ++ (b ∷ [])) ≡ spelled reads xs ++ (x ∷ [])
   spelled-push [] b x r = ap (λ (o : Option K). before o []) r
   spelled-push (c ∷ xs) b x r =
       elim (reads c) as (λ o. before o (spelled reads (xs ++ (b ∷ []))) ≡ before o (spelled reads xs) ++ (x ∷ [])) [
-        Some y ↦ ap (λ (l : List K). y ∷ l) (spelled-push xs b x r)
-      | None ↦ spelled-push xs b x r
+        | Some y ↦ ap (λ (l : List K). y ∷ l) (spelled-push xs b x r)
+        | None ↦ spelled-push xs b x r
       ]
 
   -- bytes that are all letters spell as many
@@ -50,8 +50,8 @@ module _ {K : Type 0} (reads : ℕ → Option K) where
   length-spelled (c ∷ xs) e =
       let rest = length-spelled xs (head-none (reads c) (stray reads xs) e) in
       elim (reads c) as (λ o. stray-or o (stray reads xs) ≡ None → length (before o (spelled reads xs)) ≡ suc (length xs)) [
-        Some y ↦ λ h. ap suc rest
-      | None ↦ λ h. (let z : _≡_ {A = ℕ} 0 1 = cc in absurd (omega arith))
+        | Some y ↦ λ h. ap suc rest
+        | None ↦ λ h. (let z : _≡_ {A = ℕ} 0 1 = cc in absurd (omega arith))
       ] e
 
   -- the byte at i is the first that is no letter

@@ -12,6 +12,7 @@ use std::marker::PhantomData;
 pub const STATES: usize = 512;
 // The patterns that a list can take, and the letters that one can have.
 pub const PATTERNS: usize = 64;
+
 pub const LETTERS: usize = 12;
 
 // A list that takes patterns over the letters of `L`. Finished, it is an automaton, and takes no more.

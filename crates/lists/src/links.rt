@@ -11,10 +11,8 @@ ghost use Rattle.lists.specs.Links.{tied, Shape, Endings, Others, Planted};
 use crate::builder::STATES;
 use crate::record::Record;
 
-
-
 // How many letters the words have room for, 32 at most.
-pub fn columns(words: &[u16]) -> usize
+pub(crate) fn columns(words: &[u16]) -> usize
     ensures { λ r. ⌜ r ≡ columnsOf (now (words .entry)) ⌝ }
 {
     (words.len() / STATES).min(32)
@@ -42,7 +40,11 @@ fn tie(records: &mut [Record], q: usize, link: usize)
 {
     let ends = records[link].ends;
     let record = records[q];
-    records[q] = Record { link: link as u16, ends: record.ends | ends, ..record };
+    records[q] = Record {
+        link: link as u16,
+        ends: record.ends | ends,
+        ..record
+    };
 }
 
 // Lets every letter of q lead where it leads from the state `link`.
@@ -110,7 +112,7 @@ fn level(records: &mut [Record], words: &mut [u16], used: usize, d: usize)
 }
 
 // Settles every state, shorter ones first; `above` is above the length of each.
-pub fn complete(records: &mut [Record], words: &mut [u16], used: usize, above: usize)
+pub(crate) fn complete(records: &mut [Record], words: &mut [u16], used: usize, above: usize)
     requires trie { ⌜ Trie (now records) used ⌝ ∗ ⌜ 512 ≤ length (now records) ⌝ ∗ ⌜ 1 ≤ above ⌝ }
     requires small { ⌜ Under (columnsOf (now words)) (now records) used ⌝ }
     ensures names { λ _. ⌜ names (now (records .exit)) used ≡ names (now (records .entry)) used ⌝ }

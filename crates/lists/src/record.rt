@@ -16,5 +16,11 @@ pub struct Record {
 
 impl Record {
     // What a table of records may hold before it is lent, and the record of the empty prefix.
-    pub const BLANK: Record = Record { parent: 0, letter: 0, length: 0, link: 0, ends: 0 };
+    pub const BLANK: Record = Record {
+        parent: 0,
+        letter: 0,
+        length: 0,
+        link: 0,
+        ends: 0,
+    };
 }

@@ -62,7 +62,14 @@ impl<'a, L: Letter> Builder<'a, L> {
         if records.len() >= STATES {
             records[0] = Record::BLANK;
         }
-        Builder { records, words, used: 1, taken: 0, longest: 0, kind: PhantomData }
+        Builder {
+            records,
+            words,
+            used: 1,
+            taken: 0,
+            longest: 0,
+            kind: PhantomData,
+        }
     }
 
     // Whether the pattern `word` would be one too many, or bring a state too many.
@@ -93,7 +100,14 @@ impl<'a, L: Letter> Builder<'a, L> {
             → Lists (now (now (self .exit) .records)) (now (self .exit) .used) (now (self .exit) .taken) (now (self .exit) .longest) (ps ++ (now (word .entry) ∷ []))) ⌝ }
     {
         let n = word.len();
-        let Builder { records, words: _, used, taken, longest, kind: _ } = self;
+        let Builder {
+            records,
+            words: _,
+            used,
+            taken,
+            longest,
+            kind: _,
+        } = self;
         let (under, count) = enter(records, *used, word);
         mark(records, under, word[n - 1]);
         *used = count;
@@ -141,13 +155,36 @@ impl<'a, L: Letter> Builder<'a, L> {
         ensures taken { λ r. ⌜ ((n m : ℕ) (ps : List (List L)) → Holds (L·Letter .alphabet) n m (self .entry) ps
             → r .taken ≡ length ps) ⌝ }
     {
-        let Builder { records, words, used, taken, longest, kind } = self;
+        let Builder {
+            records,
+            words,
+            used,
+            taken,
+            longest,
+            kind,
+        } = self;
         if taken == 0 {
-            return Listed { records, words, used: 1, columns: 32, taken: 0, memory: 0, kind };
+            return Listed {
+                records,
+                words,
+                used: 1,
+                columns: 32,
+                taken: 0,
+                memory: 0,
+                kind,
+            };
         }
         complete(records, words, used, longest);
         let columns = columns(words) as u8;
-        Listed { records, words, used: used as u16, columns, taken, memory: longest as u16 - 1, kind }
+        Listed {
+            records,
+            words,
+            used: used as u16,
+            columns,
+            taken,
+            memory: longest as u16 - 1,
+            kind,
+        }
     }
 }
 

@@ -28,7 +28,7 @@ fn child(records: &[Record], used: usize, under: usize, a: u8) -> Option<usize>
 }
 
 // How many states there would be with the proper prefixes of `word`.
-pub fn grown(records: &[Record], used: usize, word: &[u8]) -> usize
+pub(crate) fn grown(records: &[Record], used: usize, word: &[u8]) -> usize
     requires trie { ⌜ Trie (now records) used ⌝ ∗ ⌜ used ≤ length (now records) ⌝ }
     requires word { ⌜ 1 ≤ length (now word) ⌝ ∗ ⌜ length (now word) ≤ 12 ⌝ }
     ensures { λ r. ⌜ r ≡ length (gather (names (now (records .entry)) used) (fronts (now (word .entry)))) ⌝ }
@@ -53,12 +53,18 @@ fn reach(records: &mut [Record], used: usize, under: usize, a: u8, depth: u8) ->
     if let Some(j) = child(records, used, under, a) {
         return (j, used);
     }
-    records[used] = Record { parent: under as u16, letter: a, length: depth, link: 0, ends: 0 };
+    records[used] = Record {
+        parent: under as u16,
+        letter: a,
+        length: depth,
+        link: 0,
+        ends: 0,
+    };
     (used, used + 1)
 }
 
 // Enters the proper prefixes of `word`, and gives the state of the longest with how many states there are then.
-pub fn enter(records: &mut [Record], used: usize, word: &[u8]) -> (usize, usize)
+pub(crate) fn enter(records: &mut [Record], used: usize, word: &[u8]) -> (usize, usize)
     requires trie { ⌜ Trie (now records) used ⌝ ∗ ⌜ 512 ≤ length (now records) ⌝ }
     requires word { ⌜ 1 ≤ length (now word) ⌝ ∗ ⌜ length (now word) ≤ 12 ⌝ }
     requires room { ⌜ length (gather (names (now records) used) (fronts (now word))) ≤ 512 ⌝ }
@@ -75,7 +81,7 @@ pub fn enter(records: &mut [Record], used: usize, word: &[u8]) -> (usize, usize)
 }
 
 // Marks that a pattern ends where the letter `a` follows the state `under`.
-pub fn mark(records: &mut [Record], under: usize, a: u8)
+pub(crate) fn mark(records: &mut [Record], under: usize, a: u8)
     requires { ⌜ under < length (now records) ⌝ ∗ ⌜ a < 32 ⌝ }
     ensures { λ _. ⌜ now (records .exit) ≡ set (now (records .entry)) under (with-end (rec (now (records .entry)) under) (2 ^ a)) ⌝ }
 {

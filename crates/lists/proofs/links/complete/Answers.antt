@@ -15,11 +15,10 @@ loop-d-holds c =
     let mid = c .reset .last .words in
     let last = c .plant .last .words in
     let first : columns mid ≡ columns (c .args .words .now) = ap (λ (n : ℕ). min 32 (n / 512)) (c .reset .kept .words) in
-    let second : columns last ≡ columns mid = ap (λ (n : ℕ). min 32 (n / 512)) (c .plant .kept .words) in
-    (
+    let second : columns last ≡ columns mid = ap (λ (n : ℕ). min 32 (n / 512)) (c .plant .kept .words) in (
       refl,
       first-shape ns u (omega (arith, c .pre .trie .0 .1)) (c .pre .trie .0) (c .args .words .now) mid last (c .pre .trie .1 .0) (λ i pos h. omega (arith, first, second, c .pre .small i pos h))
-        (λ a h. c .reset .ensures a (omega (arith, first, second))) (λ a h. c .plant .ensures .row a (omega (arith, second))),
+          (λ a h. c .reset .ensures a (omega (arith, first, second))) (λ a h. c .plant .ensures .row a (omega (arith, second))),
       λ ps e. e,
     )
 

@@ -28,17 +28,17 @@ loop-q-again c =
     let i = c .loop-q .inv in
     let deep = i .1 .trie .3 q (omega arith) (c .loop-q-test .taken) in
     elim (c .if-records-q .came) [
-      then-records-q v ↦
-        (let e : length (getD (names ns u) q []) ≡ d = sym deep ∙ v .if-records-q .taken in
-        let shape : Shape (v .settle .last .records) (v .settle .last .words) u d (q + 1) = subst (λ (n : ℕ). Shape (v .settle .last .records) (v .settle .last .words) u n (q + 1)) e (v .settle .ensures .shape) in
-        let ends : (ps : List Word) → Endings old u d 1 ps → Endings (v .settle .last .records) u d (q + 1) ps = λ ps h.
-            subst (λ (n : ℕ). Endings ns u n q ps → Endings (v .settle .last .records) u n (q + 1) ps) e (v .settle .ensures .ends ps) (i .2 ps h) in
-        let turn : Turn old (v .settle .last .records) (v .settle .last .words) u d (q + 1) = (v .settle .ensures .names ∙ i .0, shape, ends) in
-        subst (λ (l : List Record). Turn old l (c .if-records-q .words) u d (q + 1)) (sym (v .records-is)) (subst (λ (l : List ℕ). Turn old (v .settle .last .records) l u d (q + 1)) (sym (v .words-is)) turn))
-    | else-records-q v ↦
-        (let ne : length (getD (names ns u) q []) ≡ d → ⊥ = λ e. v .if-records-q .left (deep ∙ e) in
-        let turn : Turn old ns words u d (q + 1) = (i .0, shape-by ns words u d q d (q + 1) (λ x l. skip-back (names ns u) d q ne x) (i .1), λ ps h. endings-by ns words u d q d (q + 1) (λ x l. skip-back (names ns u) d q ne x) (λ x l. skip-on (names ns u) d q x) ps (i .2 ps h)) in
-        subst (λ (l : List Record). Turn old l (c .if-records-q .words) u d (q + 1)) (sym (v .records-is)) (subst (λ (l : List ℕ). Turn old ns l u d (q + 1)) (sym (v .words-is)) turn))
+      | then-records-q v ↦
+          (let e : length (getD (names ns u) q []) ≡ d = sym deep ∙ v .if-records-q .taken in
+          let shape : Shape (v .settle .last .records) (v .settle .last .words) u d (q + 1) = subst (λ (n : ℕ). Shape (v .settle .last .records) (v .settle .last .words) u n (q + 1)) e (v .settle .ensures .shape) in
+          let ends : (ps : List Word) → Endings old u d 1 ps → Endings (v .settle .last .records) u d (q + 1) ps = λ ps h.
+          subst (λ (n : ℕ). Endings ns u n q ps → Endings (v .settle .last .records) u n (q + 1) ps) e (v .settle .ensures .ends ps) (i .2 ps h) in
+          let turn : Turn old (v .settle .last .records) (v .settle .last .words) u d (q + 1) = (v .settle .ensures .names ∙ i .0, shape, ends) in
+          subst (λ (l : List Record). Turn old l (c .if-records-q .words) u d (q + 1)) (sym (v .records-is)) (subst (λ (l : List ℕ). Turn old (v .settle .last .records) l u d (q + 1)) (sym (v .words-is)) turn))
+      | else-records-q v ↦
+          (let ne : length (getD (names ns u) q []) ≡ d → ⊥ = λ e. v .if-records-q .left (deep ∙ e) in
+          let turn : Turn old ns words u d (q + 1) = (i .0, shape-by ns words u d q d (q + 1) (λ x l. skip-back (names ns u) d q ne x) (i .1), λ ps h. endings-by ns words u d q d (q + 1) (λ x l. skip-back (names ns u) d q ne x) (λ x l. skip-on (names ns u) d q x) ps (i .2 ps h)) in
+          subst (λ (l : List Record). Turn old l (c .if-records-q .words) u d (q + 1)) (sym (v .records-is)) (subst (λ (l : List ℕ). Turn old ns l u d (q + 1)) (sym (v .words-is)) turn))
     ]
 
 pub returns : need.returns

@@ -23,16 +23,15 @@ loop-j-again c =
     let small = c .pre .room .1 .1 .0 in
     let Both : List ℕ → Type 0 = λ l. ((a : ℕ) → a < columns old → Planted ns old l q (j + 1) a) × Others old l q in
     elim (c .if-record-q .came) [
-      then-record-q v ↦
-        (let letter : rec ns j .letter < columns old = c .pre .small j (omega arith) (c .loop-j-test .taken) in
-        let room : rec ns j .letter * 512 + q < length w = omega (arith, column-room old (rec ns j .letter) q letter small) in
-        subst Both (sym (v .words-is))
-        (
-          (λ a h. plant-child ns old w q j a (c .loop-j .inv .0 a h) (omega arith) (v .if-record-q .taken) room small),
-          others-write w (rec ns j .letter) q j room small old (c .loop-j .inv .1),
-        ))
-    | else-record-q v ↦
-        subst Both (sym (v .words-is)) ((λ a h. plant-skip ns old w q j a (c .loop-j .inv .0 a h) (v .if-record-q .left)), c .loop-j .inv .1)
+      | then-record-q v ↦
+          (let letter : rec ns j .letter < columns old = c .pre .small j (omega arith) (c .loop-j-test .taken) in
+          let room : rec ns j .letter * 512 + q < length w = omega (arith, column-room old (rec ns j .letter) q letter small) in
+          subst Both (sym (v .words-is)) (
+            (λ a h. plant-child ns old w q j a (c .loop-j .inv .0 a h) (omega arith) (v .if-record-q .taken) room small),
+            others-write w (rec ns j .letter) q j room small old (c .loop-j .inv .1),
+          ))
+      | else-record-q v ↦
+          subst Both (sym (v .words-is)) ((λ a h. plant-skip ns old w q j a (c .loop-j .inv .0 a h) (v .if-record-q .left)), c .loop-j .inv .1)
     ]
 
 pub returns : need.returns

@@ -41,12 +41,11 @@ loop-k-again c =
     let j = c .in-Some .j in
     let h = c .in-Some .ensures tt in
     let is : getD (names ns u) j [] ≡ take (k + 1) w =
-        child-state ns u (c .pre .trie .1) (c .pre .trie .0) (c .loop-k .under) (getD w k 0) j h ∙ ap (λ (v : Word). v ++ (getD w k 0 ∷ [])) (i .1) ∙ sym (take-more w k 0 (omega arith)) in
-    (
+    child-state ns u (c .pre .trie .1) (c .pre .trie .0) (c .loop-k .under) (getD w k 0) j h ∙ ap (λ (v : Word). v ++ (getD w k 0 ∷ [])) (i .1) ∙ sym (take-more w k 0 (omega arith)) in (
       h .1,
       is,
       gather-more (names ns u) w (k + 1) (omega arith) ∙ ap (λ (l : List Word). with l (take (k + 1) w)) (i .2)
-        ∙ with-old (names ns u) (take (k + 1) w) (place-of ns u (c .pre .trie .1) (c .pre .trie .0) j (h .1) (take (k + 1) w) is .0),
+          ∙ with-old (names ns u) (take (k + 1) w) (place-of ns u (c .pre .trie .1) (c .pre .trie .0) j (h .1) (take (k + 1) w) is .0),
     )
 
 pub returns : need.returns

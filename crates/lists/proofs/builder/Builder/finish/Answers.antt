@@ -42,9 +42,8 @@ ghost-result-2 g c =
     let cols = c .columns-columns .ensures in
     let some : 1 ≤ b .taken = omega arith in
     let right : (ps : List Word) → Lists (b .records .now) (b .used) (b .taken) (b .longest) ps → Right ps (b .used) (c .columns-columns .result) (stop-at ns (c .columns-columns .result) (b .taken)) (goes-to words (b .taken)) = λ ps l.
-        subst (λ (n : ℕ). Right ps (b .used) n (stop-at ns n (b .taken)) (goes-to words (b .taken))) (sym cols)
-        (finished-right (b .records .now) ns words (b .used) (b .taken) (b .longest) some (b .fits some) (b .some, b .few, b .below, b .deep, b .apart) (c .complete .ensures .names) (c .complete .ensures .shape) (c .complete .ensures .ends) ps l) in
-    (
+    subst (λ (n : ℕ). Right ps (b .used) n (stop-at ns n (b .taken)) (goes-to words (b .taken))) (sym cols)
+    (finished-right (b .records .now) ns words (b .used) (b .taken) (b .longest) some (b .fits some) (b .some, b .few, b .below, b .deep, b .apart) (c .complete .ensures .names) (c .complete .ensures .shape) (c .complete .ensures .ends) ps l) in (
       b .few,
       (
         omega (arith, cols),

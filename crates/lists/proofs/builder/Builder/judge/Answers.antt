@@ -37,7 +37,7 @@ returns-then-full g c =
       cause = λ k m ps p len is h.
           let v = whole n w (map (A .number) p) (is (c .if-k-gt-LETTERS .left)) in
           let f : (leb 64 (b .taken) || ltb 512 (length (gather (names (b .records .now) (b .used)) (fronts (map (A .number) p))))) ≡ true =
-              ap (λ (v : Word). leb 64 (b .taken) || ltb 512 (length (gather (names (b .records .now) (b .used)) (fronts v)))) (sym v) ∙ sym (c .if-full .ensures tt) in
+          ap (λ (v : Word). leb 64 (b .taken) || ltb 512 (length (gather (names (b .records .now) (b .used)) (fronts v)))) (sym v) ∙ sym (c .if-full .ensures tt) in
           ap Some (c .full-list .ensures ∙ ap full-list (c .patterns .ensures)) ∙ cause-full A k m (b .records .now) (b .words .now) (b .used) (b .taken) (b .longest) ps h p (roomy-of (g .L·Letter .alphabet) k m h (c .if-not-roomy .ensures tt .0 refl)) (omega arith) (omega arith) f;
       holds = λ k m ps p len is h. h;
       same = (refl, refl, refl, refl, refl);
@@ -73,7 +73,7 @@ returns g c =
       cause = λ k m ps p len is h.
           let v = whole n w (map (A .number) p) (is (c .if-k-gt-LETTERS .left)) in
           let f : (leb 64 (b .taken) || ltb 512 (length (gather (names (b .records .now) (b .used)) (fronts (map (A .number) p))))) ≡ false =
-              ap (λ (v : Word). leb 64 (b .taken) || ltb 512 (length (gather (names (b .records .now) (b .used)) (fronts v)))) (sym v) ∙ sym (c .if-full .ensures tt) in
+          ap (λ (v : Word). leb 64 (b .taken) || ltb 512 (length (gather (names (b .records .now) (b .used)) (fronts v)))) (sym v) ∙ sym (c .if-full .ensures tt) in
           cause-none A k m (b .records .now) (b .words .now) (b .used) (b .taken) (b .longest) ps h p (roomy-of (g .L·Letter .alphabet) k m h (c .if-not-roomy .ensures tt .0 refl)) (omega arith) (omega arith) f;
       holds = λ k m ps p len is h.
           holds-more A k m (b .records .now) (b .words .now) (b .used) (b .taken) (b .longest) ps h p (roomy-of (g .L·Letter .alphabet) k m h (c .if-not-roomy .ensures tt .0 refl)) (omega arith) (omega arith)

@@ -15,9 +15,9 @@ use Rattle.lists.proofs.builder.Builder.start.Needs.{Joined-records-ge-STATES,
 -- the first record has no end mark
 bare : (g : given.Over) (c : Joined-records-ge-STATES g) → 512 ≤ length (c .if-records-ge-STATES .records) → rec (c .if-records-ge-STATES .records) 0 .ends ≡ 0
 bare g c long = elim (c .if-records-ge-STATES .came) [
-    then-records-ge-STATES w ↦ ap (λ l. rec l 0 .ends) (w .records-is) ∙ ap (λ (m : Record). m .ends) (getD-set-same (c .args .records .now) 0 blank blank (omega (arith, w .if-records-ge-STATES .taken)))
+  | then-records-ge-STATES w ↦ ap (λ l. rec l 0 .ends) (w .records-is) ∙ ap (λ (m : Record). m .ends) (getD-set-same (c .args .records .now) 0 blank blank (omega (arith, w .if-records-ge-STATES .taken)))
   | else-records-ge-STATES w ↦ absurd (omega (arith, w .if-records-ge-STATES .left, c .if-records-ge-STATES .kept .records))
-  ]
+]
 
 pub ghost-result : need.ghost-result
 ghost-result g c =

@@ -30,8 +30,8 @@ pub ghost-self : need.ghost-self
 ghost-self g c =
     let t = new-trie g c in
     let small : Under (columns (c .args .self .now .words .now)) (c .mark .last .records) (c .enter-under .result .1) =
-        subst (λ (l : List Record). Under (columns (c .args .self .now .words .now)) l (c .enter-under .result .1)) (sym (c .mark .ensures))
-        (marked-under (c .args .self .now .records .now) (c .enter-under .last .records) (c .args .self .now .used) (c .args .word .now) (c .enter-under .result .0) (c .enter-under .result .1) (c .pre .word .0) (fits g c) (trie-of g c) (within g c) (c .enter-under .ensures) (columns (c .args .self .now .words .now)) (c .args .self .now .small) (c .pre .letters)) in
+    subst (λ (l : List Record). Under (columns (c .args .self .now .words .now)) l (c .enter-under .result .1)) (sym (c .mark .ensures))
+    (marked-under (c .args .self .now .records .now) (c .enter-under .last .records) (c .args .self .now .used) (c .args .word .now) (c .enter-under .result .0) (c .enter-under .result .1) (c .pre .word .0) (fits g c) (trie-of g c) (within g c) (c .enter-under .ensures) (columns (c .args .self .now .words .now)) (c .args .self .now .small) (c .pre .letters)) in
     (t .0, (t .1, (t .2, (t .3, (t .4, (λ h. omega (arith, c .pre .room .0, c .enter-under .kept .records, c .mark .kept .records), (small, (∥∥₁-map (c .args .self .now .held) (λ b. (b .0 ++ (c .args .word .now ∷ []), lists-taken (c .args .self .now .records .now) (c .enter-under .last .records) (c .args .self .now .used) (c .args .word .now) (c .enter-under .result .0) (c .enter-under .result .1) (c .pre .word .0) (fits g c) (trie-of g c) (within g c) (c .enter-under .ensures) (c .args .self .now .taken) (c .args .self .now .longest) (b .0) (b .1) (sym (c .enter-under .kept .records)) (c .mark .last .records) (c .max .result) (c .mark .ensures) (c .max .ensures))), (omega (arith, c .max .ensures, c .args .self .now .brief), tt)))))))))
 
 pub returns : need.returns
