@@ -1,16 +1,14 @@
 -- The turns of the search from state to state. Assumes nothing.
-use mathlib.Core.Path.{_≡_, refl, sym, ap, subst, _∙_}
+use mathlib.Core.Path.{_≡_, sym, ap, subst, _∙_}
 use mathlib.Core.Bool.{true, false}
 use mathlib.Core.List.{List}
 use Prim.Native.Nat.{ℕ, _+_, _<_, _≤_}
 use native.Mathlib.Omega.{arith}
-use lib.ListN.{length, getD, set, replicate}
-use Rattle.std.specs.Options.{isSome}
-use Rattle.std.specs.declared.option.Option.{Option}
+use lib.ListN.{length, set, replicate}
 use Rattle.std.proofs.shelf.Lists.{length-set, length-replicate}
 use Rattle.std.proofs.shelf.Tests.{both-ways}
 use Rattle.models.specs.Alphabet.{Alphabet}
-use Rattle.models.specs.Automaton.{Model, walk}
+use Rattle.models.specs.Automaton.{Model}
 use Rattle.joinlaw.specs.Bridges.{serves}
 use Rattle.joins.specs.Queue.{by, step-by, Searched, Paused, Goalless, Found, Nothing}
 use Rattle.joins.proofs.Turns.{paused-start, goalless-kept, goalless-more}

@@ -1,18 +1,15 @@
 -- What the queue spells is the filling. Assumes nothing.
 use mathlib.Core.Path.{_≡_, refl, sym, ap, _∙_, subst}
-use mathlib.Core.Bool.{Bool, true}
 use mathlib.Core.List.{List, [], _∷_, _++_, map}
 use mathlib.Core.Logic.{⊎-elim}
-use Prim.Native.Nat.{ℕ, zero, suc, _<_, _≤_}
+use Prim.Native.Nat.{ℕ, _<_}
 use native.Mathlib.Omega.{arith}
-use lib.ListN.{length}
 use Rattle.std.specs.Options.{isSome}
-use Rattle.std.specs.declared.option.Option.{Option}
 use Rattle.std.specs.declared.option.Option.the-variants.{Some, None}
 use Rattle.std.proofs.shelf.Tests.{cases-lt}
 use Rattle.models.specs.Alphabet.{Alphabet, Numbered, Bears}
-use Rattle.models.specs.Automaton.{Next, Model, Lawful, walk, bind}
-use Rattle.models.specs.Strings.{Leads, Least}
+use Rattle.models.specs.Automaton.{Model, Lawful, walk, bind}
+use Rattle.models.specs.Strings.{Leads}
 use Rattle.joinlaw.specs.Words.{letters, listed}
 use Rattle.joinlaw.specs.Bridges.{serves, filling, Fills}
 use Rattle.joinlaw.proofs.Letters.{letters-ascend, over-letters}
@@ -59,9 +56,9 @@ module _ {K : Type 0} (A : Alphabet K) (numbered : Numbered A) (m : Model K) (la
       let same : map (A .number) z ≡ w = spelled-numbers A numbered m w start (q head) led in
       let there : walk (m .next) start z ≡ Some (q head) = sym (walk-by-number A numbered m z start) ∙ ap (walk (step-by A m) start) same ∙ led in
       let least : (y : List K) → Fills m (letters A) start v y → Leads (A .number) z y = λ y fills.
-          let way = via (m .next) start y v (fills .1) in
-          let le : Le w (map (A .number) y) = first-word (step-by A m) start head (found .tail) q p l (found .searched) (serves m v) (found .before) (found .within) (map (A .number) y) (way .at) (walk-by-number A numbered m y start ∙ way .there) (way .on) in
-          le-leads (A .number) z y (subst (λ x. Le x (map (A .number) y)) (sym same) le) in
+      let way = via (m .next) start y v (fills .1) in
+      let le : Le w (map (A .number) y) = first-word (step-by A m) start head (found .tail) q p l (found .searched) (serves m v) (found .before) (found .within) (map (A .number) y) (way .at) (walk-by-number A numbered m y start ∙ way .there) (way .on) in
+      le-leads (A .number) z y (subst (λ x. Le x (map (A .number) y)) (sym same) le) in
       filling-is (A .number) m (letters A) (letters-ascend A numbered) start v lawful among (numbered .apart) z
       ((over-letters A numbered z, ap isSome (walk-on (m .next) start (q head) z v there) ∙ found .is-goal), least)
 

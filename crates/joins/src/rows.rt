@@ -19,7 +19,12 @@ use faults::Fault;
 use letters::Letter;
 
 // Writes what an overlap leaves of `right` at the place `at`.
-fn put_rest<K: Letter>(right: &[K], shared: usize, text: &mut [K], at: usize) -> Result<Joined, Fault>
+fn put_rest<K: Letter>(
+    right: &[K],
+    shared: usize,
+    text: &mut [K],
+    at: usize,
+) -> Result<Joined, Fault>
     requires { ⌜ shared ≤ length (now right) ⌝ ∗ ⌜ at + length (now right) < 2 ^ 63 ⌝ }
     ensures answer { λ r. ⌜ r ≡ put (record { overlap = shared; filling = [] }) (now (right .entry)) at (length (now (text .entry))) ⌝ }
     ensures text { λ _. ⌜ now (text .exit) ≡ put-text (record { overlap = shared; filling = [] }) (now (right .entry)) at (now (text .entry)) ⌝ }
@@ -29,7 +34,11 @@ fn put_rest<K: Letter>(right: &[K], shared: usize, text: &mut [K], at: usize) ->
         return Err(Fault::short_text(end));
     }
     text[at..end].copy_from_slice(&right[shared..]);
-    Ok(Joined { length: end, overlap: shared, filled: 0 })
+    Ok(Joined {
+        length: end,
+        overlap: shared,
+        filled: 0,
+    })
 }
 
 // Writes the letters that lead to a place in the queue, and then `right`, at the place `at`.
@@ -55,7 +64,11 @@ fn put_filling<K: Letter>(
     }
     spell(parents, letters, place, &mut text[at..middle]);
     text[middle..end].copy_from_slice(right);
-    Ok(Joined { length: end, overlap: 0, filled })
+    Ok(Joined {
+        length: end,
+        overlap: 0,
+        filled,
+    })
 }
 
 // Appends the filling and `right`: the search, and what it finds written at the place `at`. `taken` is the place of the

@@ -1,4 +1,3 @@
-use lib.ListN.{length}
 use Rattle.joins.proofs.Expansions.{Expanding}
 use Rattle.joins.proofs.search.expand.Given as given
 

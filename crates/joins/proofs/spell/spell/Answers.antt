@@ -1,8 +1,6 @@
-use mathlib.Core.Path.{_≡_, refl, sym, ap, _∙_}
-use Prim.Native.Nat.{ℕ, _-_, _<_, _≤_}
+use mathlib.Core.Path.{sym}
 use native.Mathlib.Omega.{arith}
-use Rattle.joins.specs.Queue.{by}
-use Rattle.joins.proofs.Traces.{Spelled, spelled-start, spelled-turn, spelled-some, spelled-end, letter-some}
+use Rattle.joins.proofs.Traces.{spelled-start, spelled-turn, spelled-some, spelled-end, letter-some}
 use Rattle.joins.proofs.spell.spell.Needs as need
 use Rattle.joins.proofs.spell.spell.Needs.{in-Some, in-rest}
 
