@@ -1,12 +1,11 @@
 -- An automaton with one state that stops every letter, for cases. Assumes nothing.
 use mathlib.Core.Path.{_≡_, refl}
-use mathlib.Core.Bool.{true}
 use mathlib.Core.List.{List, [], _∷_, _++_}
-use Prim.Native.Nat.{ℕ, _≤_, _<_}
+use Prim.Native.Nat.{ℕ, _≤_}
 use native.Mathlib.Omega.{arith}
 use lib.Dec.{lit<, lit≤}
 use lib.ListN.{length}
-use Rattle.std.specs.declared.option.Option.the-variants.{Some, None}
+use Rattle.std.specs.declared.option.Option.the-variants.{None}
 use Rattle.std.proofs.shelf.Tests.{false≢true}
 use Rattle.models.specs.Automaton.{Next, Model, Lawful, walk, Passes, last}
 

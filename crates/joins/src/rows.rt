@@ -51,10 +51,10 @@ fn put_filling<K: Letter>(
     at: usize,
 ) -> Result<Joined, Fault>
     requires within { ⌜ place < length (now parents) ⌝ ∗ ⌜ place < length (now letters) ⌝ }
-    requires traced { ⌜ Traced alphabet (by (now parents)) (by (now letters)) place ⌝ }
+    requires traced { ⌜ Traced (alphabet .letter) (by (now parents)) (by (now letters)) place ⌝ }
     requires small { ⌜ at + length (now right) < 2 ^ 63 ⌝ }
-    ensures answer { λ r. ⌜ r ≡ put (record { overlap = 0; filling = spelling alphabet (by (now (parents .entry))) (by (now (letters .entry))) place }) (now (right .entry)) at (length (now (text .entry))) ⌝ }
-    ensures text { λ _. ⌜ now (text .exit) ≡ put-text (record { overlap = 0; filling = spelling alphabet (by (now (parents .entry))) (by (now (letters .entry))) place }) (now (right .entry)) at (now (text .entry)) ⌝ }
+    ensures answer { λ r. ⌜ r ≡ put (record { overlap = 0; filling = spelling (alphabet .letter) (by (now (parents .entry))) (by (now (letters .entry))) place }) (now (right .entry)) at (length (now (text .entry))) ⌝ }
+    ensures text { λ _. ⌜ now (text .exit) ≡ put-text (record { overlap = 0; filling = spelling (alphabet .letter) (by (now (parents .entry))) (by (now (letters .entry))) place }) (now (right .entry)) at (now (text .entry)) ⌝ }
 {
     let filled = depth(parents, place);
     let middle = at + filled;

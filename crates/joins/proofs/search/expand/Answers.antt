@@ -55,6 +55,6 @@ returns g c =
     let x = c .loop-number .inv in
     let l = g .S·Automaton .lawful (c .args .automaton .now) in
     record {
-      paused = expanding-end _ _ l _ _ _ _ _ _ _ _ _ x (g .Kind·Letter .numbered) (let size = c .count-number-end .ensures in omega arith);
+      paused = expanding-end _ _ l _ _ _ _ _ _ _ _ _ x (g .Kind·Letter .alphabet .size) (g .Kind·Letter .numbered .past) (let size = c .count-number-end .ensures in omega arith);
       kept = x .kept;
     }
