@@ -1,8 +1,8 @@
 -- How a string that ends with v is put together after t: an end of t is a beginning of v, or all of v comes after t. Assumes nothing.
-use mathlib.Core.Path.{_≡_, refl, sym, ap, subst, _∙_}
+use mathlib.Core.Path.{_≡_, refl, sym, ap, _∙_}
 use mathlib.Core.List.{List, [], _∷_, _++_}
 use mathlib.Core.Logic.{_⊎_, inl, inr, ⊎-elim}
-use Prim.Native.Nat.{ℕ, suc, _+_, _-_, _<_, _≤_}
+use Prim.Native.Nat.{ℕ, suc, _+_, _-_, _≤_}
 use native.Mathlib.Nat.{zero-add}
 use native.Mathlib.Omega.{arith}
 use lib.ListN.{length, take, drop, take-append-drop}
@@ -74,9 +74,9 @@ module _ {K : Type 0} where
   merged-ends t v o e = (
     take (length t - o) t,
     ap (λ w. w ++ drop o v) (sym (front-last o t))
-    ∙ append-assoc (take (length t - o) t) (last o t) (drop o v)
-    ∙ ap (λ w. take (length t - o) t ++ (w ++ drop o v)) e
-    ∙ ap (λ w. take (length t - o) t ++ w) (take-append-drop o v),
+        ∙ append-assoc (take (length t - o) t) (last o t) (drop o v)
+        ∙ ap (λ w. take (length t - o) t ++ (w ++ drop o v)) e
+        ∙ ap (λ w. take (length t - o) t ++ w) (take-append-drop o v),
   )
 
   pub apart-ends : (t v z : List K) → Ends v (t ++ (z ++ v))

@@ -4,12 +4,12 @@ use mathlib.Core.Bool.{Bool, true, false, cond}
 use mathlib.Core.List.{List, [], _∷_}
 use Prim.Native.Nat.{ℕ, _+_, _*_}
 use lib.Dec.{eqb}
-use lib.ListN.{length, getD}
+use lib.ListN.{getD}
 use Rattle.std.specs.declared.option.Option.{Option}
 use Rattle.std.specs.declared.option.Option.the-variants.{Some, None}
 use Rattle.models.specs.Alphabet.{Alphabet}
 use Rattle.models.specs.Automaton.{Model}
-use Rattle.joinlaw.specs.Bridges.{Bridge, bridge, filling, join, next-row}
+use Rattle.joinlaw.specs.Bridges.{bridge, filling, join, next-row}
 
 abbrev a : Bool
 a = false

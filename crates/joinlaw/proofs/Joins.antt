@@ -1,8 +1,8 @@
 -- The join is the least string that joins. Assumes nothing.
 use mathlib.Core.Path.{_≡_, refl, sym, ap, subst, _∙_}
-use mathlib.Core.List.{List, [], _∷_, _++_}
+use mathlib.Core.List.{List, _++_}
 use mathlib.Core.Logic.{⊎-elim}
-use Prim.Native.Nat.{ℕ, _+_, _<_, _≤_, min}
+use Prim.Native.Nat.{ℕ, _+_, _≤_, min}
 use native.Mathlib.Nat.{min-eq-left, min-eq-right, min-le-right}
 use native.Mathlib.Omega.{arith}
 use lib.ListN.{length}
@@ -11,10 +11,10 @@ use Rattle.std.specs.declared.option.Option.the-variants.{Some, None}
 use Rattle.std.proofs.shelf.Lists.{length-append}
 use Rattle.std.proofs.shelf.Tests.{cases-lt}
 use Rattle.models.specs.Alphabet.{Alphabet, Numbered}
-use Rattle.models.specs.Automaton.{Model, Lawful, Pass}
-use Rattle.models.specs.Strings.{Begins, Ends, Leads, Least}
+use Rattle.models.specs.Automaton.{Model, Pass}
+use Rattle.models.specs.Strings.{Leads}
 use Rattle.joinlaw.specs.Words.{letters}
-use Rattle.joinlaw.specs.Bridges.{Bridge, bridge, row, join}
+use Rattle.joinlaw.specs.Bridges.{Bridge, row, join}
 use Rattle.joinlaw.specs.Laws.{Joins, JoinIs, Join-law, Join-once}
 use Rattle.joinlaw.proofs.Orders.{leads-front, least-once}
 use Rattle.joinlaw.proofs.Letters.{letters-ascend, over-letters}

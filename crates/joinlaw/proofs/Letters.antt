@@ -8,7 +8,6 @@ use Rattle.std.specs.shelf.Lists.{All}
 use Rattle.std.specs.declared.option.Option.{Option}
 use Rattle.std.specs.declared.option.Option.the-variants.{Some, None}
 use Rattle.std.proofs.shelf.Elements.{all-push, all-weaker}
-use Rattle.std.proofs.shelf.Lists.{append-nil}
 use Rattle.std.proofs.shelf.Tests.{cases-lt}
 use Rattle.models.specs.Alphabet.{Alphabet, Numbered, Bears}
 use Rattle.joinlaw.specs.Words.{letters, letters-below, listed, Ascending, Over}

@@ -1,7 +1,7 @@
 -- The next row is the least that brings a text to its next window. Assumes nothing.
-use mathlib.Core.Path.{_≡_, refl, sym, ap, subst, _∙_}
-use mathlib.Core.List.{List, [], _∷_, _++_}
-use Prim.Native.Nat.{ℕ, _+_, _-_, _<_, _≤_}
+use mathlib.Core.Path.{_≡_, sym, ap, subst, _∙_}
+use mathlib.Core.List.{List, [], _++_}
+use Prim.Native.Nat.{ℕ, _-_, _≤_}
 use native.Mathlib.Omega.{arith}
 use lib.ListN.{length}
 use Rattle.std.specs.declared.option.Option.{Option}
@@ -9,9 +9,8 @@ use Rattle.std.specs.declared.option.Option.the-variants.{Some, None}
 use Rattle.std.proofs.shelf.Lists.{append-nil, length-append}
 use Rattle.models.specs.Alphabet.{Alphabet, Numbered}
 use Rattle.models.specs.Automaton.{Model, Lawful, Pass, last}
-use Rattle.models.specs.Strings.{Ends, Leads, Least}
 use Rattle.joinlaw.specs.Words.{letters}
-use Rattle.joinlaw.specs.Bridges.{Bridge, bridge, row, next-row}
+use Rattle.joinlaw.specs.Bridges.{Bridge, row, next-row}
 use Rattle.joinlaw.specs.Laws.{Continues, NextRowIs, Follows, Next-row-law}
 use Rattle.joinlaw.proofs.Letters.{letters-ascend, over-letters}
 use Rattle.joinlaw.proofs.Orders.{least-as}

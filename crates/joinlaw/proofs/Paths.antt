@@ -3,7 +3,7 @@ use mathlib.Core.Path.{_≡_, refl, sym, ap, subst, _∙_}
 use mathlib.Core.Bool.{true}
 use mathlib.Core.List.{List, [], _∷_, _++_, List·Memᴰ}
 use mathlib.Core.Logic.{⊎-elim}
-use Prim.Native.Nat.{ℕ, zero, suc, _+_, _-_, _<_, _≤_}
+use Prim.Native.Nat.{ℕ, zero, suc, _<_, _≤_}
 use native.Mathlib.Omega.{arith}
 use lib.ListN.{length, take, drop, take-append-drop}
 use Rattle.std.specs.Options.{isSome}
@@ -14,9 +14,8 @@ use Rattle.std.proofs.shelf.Lists.{append-assoc, length-append, length-take-le,
 use Rattle.std.proofs.shelf.Tests.{cases-lt, false≢true}
 use Rattle.models.specs.Automaton.{Next, Model, Lawful, walk, bind, Passes}
 use Rattle.models.proofs.Walks.{walk-append}
-use Rattle.joinlaw.specs.Words.{Over}
 use Rattle.joinlaw.specs.Bridges.{Fills}
-use Rattle.joinlaw.proofs.Cycles.{Repeat, repeats}
+use Rattle.joinlaw.proofs.Cycles.{repeats}
 
 module _ {K : Type 0} (next : Next K) where
   -- the state after xs, and the way on from it

@@ -2,8 +2,8 @@
 -- are states. Assumes nothing.
 use mathlib.Core.Path.{_≡_, refl, sym, ap, subst, _∙_}
 use mathlib.Core.Bool.{true}
-use mathlib.Core.List.{List, [], _∷_, _++_}
-use mathlib.Core.Logic.{_⊎_, inl, inr, ⊎-elim}
+use mathlib.Core.List.{List, _++_}
+use mathlib.Core.Logic.{inl, ⊎-elim}
 use Prim.Native.Nat.{ℕ, _+_, _-_, _<_, _≤_}
 use native.Mathlib.Omega.{arith}
 use lib.ListN.{length, take, drop}
@@ -13,7 +13,7 @@ use Rattle.std.specs.declared.option.Option.the-variants.{Some, None}
 use Rattle.std.proofs.shelf.Lists.{length-append, length-drop, take-at}
 use Rattle.std.proofs.shelf.Tests.{cases-lt}
 use Rattle.models.specs.Alphabet.{Alphabet, Numbered}
-use Rattle.models.specs.Automaton.{Model, Lawful, walk, run, Pass, Passes, last}
+use Rattle.models.specs.Automaton.{Model, Lawful, walk, run, Pass, last}
 use Rattle.models.specs.Strings.{Ends, Leads, Least}
 use Rattle.joinlaw.specs.Words.{Ascending, Over}
 use Rattle.joinlaw.specs.Bridges.{merges, overlap, filling, Fills, Bridge, overlap-or, bridge-from, bridge, row}
@@ -66,18 +66,18 @@ module _ {K : Type 0} (A : Alphabet K) (numbered : Numbered A) (m : Model K) (la
         let p = merges-true A m q u v (numbered .apart) o (big .merged) in
         let n = length-drop o v in
         let least : (x : List K) → Row m fill t v most x → Leads (A .number) (drop o v) x = λ x r. ⊎-elim
-            (λ c.
-            let k = c .all in
-            let h = row-merges x r c in
-            ⊎-elim
-            (λ lt. absurd (big .above (c .by) lt (h .0) (h .1)))
-            (λ ge. ⊎-elim
-            (λ lt. inl (omega arith))
-            (λ eq. subst (Leads (A .number) (drop o v)) (ap (λ i. drop i v) (let e : o ≡ c .by = omega arith in e) ∙ sym (c .rest)) (leads-same (A .number) (drop o v)))
-            (cases-lt (c .by) o))
-            (cases-lt o (c .by)))
-            (λ c. let l = ap length (c .is) in let k = length-append (c .filling) v in inl (omega arith))
-            (ends-cases t v x (r .1)) in
+        (λ c.
+        let k = c .all in
+        let h = row-merges x r c in
+        ⊎-elim
+        (λ lt. absurd (big .above (c .by) lt (h .0) (h .1)))
+        (λ ge. ⊎-elim
+        (λ lt. inl (omega arith))
+        (λ eq. subst (Leads (A .number) (drop o v)) (ap (λ i. drop i v) (let e : o ≡ c .by = omega arith in e) ∙ sym (c .rest)) (leads-same (A .number) (drop o v)))
+        (cases-lt (c .by) o))
+        (cases-lt o (c .by)))
+        (λ c. let l = ap length (c .is) in let k = length-append (c .filling) v in inl (omega arith))
+        (ends-cases t v x (r .1)) in
         let none : length (drop o v) - length v ≡ 0 = omega arith in
         ((pass-on (drop o v) ∙ p .1, merged-ends t v o (stands .ends o le ∙ p .0), omega arith, subst (λ k. Over fill (take k (drop o v))) (sym none) tt), least)
 
@@ -89,9 +89,9 @@ module _ {K : Type 0} (A : Alphabet K) (numbered : Numbered A) (m : Model K) (la
       at-filling z best =
           let n = length-append z v in
           let least : (x : List K) → Row m fill t v most x → Leads (A .number) (z ++ v) x = λ x r. ⊎-elim
-              (λ c. absurd (no-merge x r c))
-              (λ c. subst (Leads (A .number) (z ++ v)) (sym (c .is)) (leads-back (A .number) z (c .filling) v (best .1 (c .filling) (row-fills x r c))))
-              (ends-cases t v x (r .1)) in
+          (λ c. absurd (no-merge x r c))
+          (λ c. subst (Leads (A .number) (z ++ v)) (sym (c .is)) (leads-back (A .number) z (c .filling) v (best .1 (c .filling) (row-fills x r c))))
+          (ends-cases t v x (r .1)) in
           let front : take (length (z ++ v) - length v) (z ++ v) ≡ z = take-at z v (length (z ++ v) - length v) (omega arith) in
           ((pass-on (z ++ v) ∙ best .0 .1, apart-ends t v z, omega arith, subst (Over fill) (sym front) (best .0 .0)), least)
 

@@ -1,5 +1,7 @@
 -- How a string goes on from a left string u so that it ends with a right string v. Assumes nothing.
 --
+--   same number xs ys           the same letters, compared by number
+--   serves m v q                v can be walked from state q
 --   merges A m q u v o          the last o letters of u are the first o of v, and the rest of v can be walked from state q
 --   overlap A m q u v most      the largest o from 1 to most that merges, if there is one
 --   filling m fill q v          the first in letter order of the shortest strings over fill after which v can be walked from q
@@ -21,14 +23,12 @@ use Rattle.models.specs.Alphabet.{Alphabet}
 use Rattle.models.specs.Automaton.{Model, walk, run, Passes, last}
 use Rattle.joinlaw.specs.Words.{letters, Over, words-below, first-that}
 
--- the same letters, compared by number
 abbrev pub same : {K : Type 0} → (K → ℕ) → List K → List K → Bool
 same number [] [] = true
 same number [] (y ∷ ys) = false
 same number (x ∷ xs) [] = false
 same number (x ∷ xs) (y ∷ ys) = eqb (number x) (number y) && same number xs ys
 
--- v can be walked from q
 abbrev pub serves : {K : Type 0} → Model K → List K → ℕ → Bool
 serves m v q = isSome (walk (m .next) q v)
 

@@ -1,5 +1,7 @@
 -- The strings over some letters, in order, and the first of them that passes a test. Assumes nothing.
 --
+--   listed o               the letter in an Option, as a string
+--   letters-below A n      the letters with numbers below n, by number
 --   letters A              the letters of an alphabet, by number
 --   Ascending number xs    each letter of xs has a lower number than those after it
 --   Over fill z            every letter of z is one of fill
@@ -19,7 +21,6 @@ abbrev pub listed : {K : Type 0} → Option K → List K
 listed (Some x) = x ∷ []
 listed None = []
 
--- the letters with numbers below n
 abbrev pub letters-below : {K : Type 0} → Alphabet K → ℕ → List K
 letters-below A zero = []
 letters-below A (suc n) = letters-below A n ++ listed (A .letter n)

@@ -3,16 +3,15 @@ use mathlib.Core.Path.{_≡_, refl, sym, ap, _∙_, subst}
 use mathlib.Core.Bool.{Bool, true}
 use mathlib.Core.List.{List, [], _∷_, _++_}
 use mathlib.Core.Logic.{_⊎_, inl, inr, ⊎-elim}
-use Prim.Native.Nat.{ℕ, zero, suc, _+_, _<_, _≤_}
+use Prim.Native.Nat.{ℕ, zero, suc, _<_, _≤_}
 use native.Mathlib.Omega.{arith}
-use lib.ListN.{length}
 use Rattle.std.specs.declared.option.Option.{Option}
 use Rattle.std.specs.declared.option.Option.the-variants.{Some, None}
 use Rattle.std.proofs.shelf.Lists.{length-push, append-assoc, append-nil}
 use Rattle.std.proofs.shelf.Tests.{cases-lt}
 use Rattle.models.specs.Automaton.{Next, walk, bind}
 use Rattle.models.proofs.Walks.{walk-step}
-use Rattle.joins.specs.Queue.{PairLt, Queued, Searched, Goalless}
+use Rattle.joins.specs.Queue.{Queued, Searched, Goalless}
 use Rattle.joins.specs.Spelling.{numbers, numbers-by}
 use Rattle.joins.proofs.WordOrder.{Lt, Le, lt-push, lt-letter, le-push, le-longer, le-trans}
 

@@ -1,9 +1,9 @@
 -- The last steps of a join. Assumes nothing.
 use mathlib.Core.Path.{_≡_, refl, sym, ap, _∙_}
 use mathlib.Core.Bool.{Bool, true, false, cond}
-use mathlib.Core.List.{List, [], _++_}
+use mathlib.Core.List.{List, _++_}
 use mathlib.Core.Logic.{⊎-elim}
-use Prim.Native.Nat.{ℕ, _+_, _-_, _*_, _<_, _≤_}
+use Prim.Native.Nat.{ℕ, _+_, _*_, _<_, _≤_}
 use native.Mathlib.Omega.{arith}
 use lib.Dec.{ltb}
 use lib.ListN.{length, take, drop, replicate}
@@ -18,8 +18,8 @@ use Rattle.faults.specs.declared.Fault.{Fault}
 use Rattle.models.specs.Automaton.{Model, stopped}
 use Rattle.joinlaw.specs.Bridges.{Bridge, row}
 use Rattle.joins.specs.declared.answers.Joined.{Joined}
-use Rattle.joins.specs.Answers.{put, put-text, appended, appended-text, passed-or, passed, written, work-after}
-use Rattle.joins.proofs.Puts.{put-fits, put-short, put-text-fits, mid-is}
+use Rattle.joins.specs.Answers.{appended, appended-text, passed-or, passed, written, work-after}
+use Rattle.joins.proofs.Puts.{put-short, put-text-fits, mid-is}
 
 never : {T : Type 0} (P : Type 0) (f : Fault) (x : T) → Err f ≡ Ok x → P
 never P f x e = let z : _≡_ {A = ℕ} 0 1 = cc in absurd (omega arith)

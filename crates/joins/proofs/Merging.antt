@@ -1,13 +1,13 @@
 -- The steps of the test for an overlap. Assumes nothing.
 use mathlib.Core.Path.{_≡_, refl, sym, ap, _∙_}
-use mathlib.Core.Bool.{Bool, true, false, cond, _&&_}
+use mathlib.Core.Bool.{true, false, _&&_}
 use mathlib.Core.List.{List, [], _∷_}
 use Prim.Native.Nat.{ℕ, zero, suc, _+_, _-_, _<_, _≤_}
 use native.Mathlib.Omega.{arith}
 use lib.Dec.{eqb}
 use lib.ListN.{length, getD, take, drop}
 use Rattle.std.specs.Options.{isSome}
-use Rattle.std.specs.declared.option.Option.the-variants.{Some, None}
+use Rattle.std.specs.declared.option.Option.the-variants.{Some}
 use Rattle.std.proofs.shelf.Lists.{drop-more, drop-all, take-rest}
 use Rattle.std.proofs.shelf.Tests.{eq-eqb, ne-eqb, and-right, and-left, cond-true, cond-false}
 use Rattle.models.specs.Alphabet.{Alphabet}
@@ -44,10 +44,6 @@ module _ {K : Type 0} (A : Alphabet K) (m : Model K) (q : ℕ) (u v : List K) wh
   pub overlap-miss : (o : ℕ) → 0 < o → merges A m q u v o ≡ false → overlap A m q u v o ≡ overlap A m q u v (o - 1)
   overlap-miss zero some e = absurd (omega arith)
   overlap-miss (suc o) some e = cond-false (merges A m q u v (suc o)) (Some (suc o)) (overlap A m q u v o) e ∙ ap (overlap A m q u v) (let z : o ≡ suc o - 1 = omega arith in z)
-
-  pub overlap-zero : (o : ℕ) → o ≤ 0 → overlap A m q u v o ≡ None
-  overlap-zero zero le = refl
-  overlap-zero (suc o) le = absurd (omega arith)
 
   -- the parts of the two strings, as slices are read
   pub same-parts : (o : ℕ) → same (A .number) (take (length u - (length u - o)) (drop (length u - o) u)) (take (o - 0) v) ≡ same (A .number) (last o u) (take o v)

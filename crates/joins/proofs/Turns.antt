@@ -1,17 +1,16 @@
 -- The start of the search, and its turns from state to state. Assumes nothing.
 use mathlib.Core.Path.{_≡_, refl, sym, ap, _∙_}
 use mathlib.Core.Bool.{Bool, true}
-use mathlib.Core.List.{List, [], _∷_}
-use mathlib.Core.Logic.{_⊎_, inl, inr, ⊎-elim}
-use Prim.Native.Nat.{ℕ, zero, suc, _+_, _<_, _≤_}
+use mathlib.Core.List.{List}
+use mathlib.Core.Logic.{inl, inr, ⊎-elim}
+use Prim.Native.Nat.{ℕ, zero, suc, _+_, _<_}
 use native.Mathlib.Omega.{arith}
 use lib.ListN.{length, getD, set, replicate}
-use Rattle.std.specs.declared.option.Option.{Option}
-use Rattle.std.specs.declared.option.Option.the-variants.{Some, None}
+use Rattle.std.specs.declared.option.Option.the-variants.{Some}
 use Rattle.std.proofs.shelf.Lists.{getD-set-same, getD-set-other, getD-replicate, length-replicate}
 use Rattle.std.proofs.shelf.Tests.{cases-lt, cases-eq}
 use Rattle.models.specs.Automaton.{Next}
-use Rattle.joins.specs.Queue.{by, zeros, PairLt, Queued, Searched, Marked, Paused, Going, Goalless}
+use Rattle.joins.specs.Queue.{by, zeros, Paused, Going, Goalless}
 use Rattle.joins.proofs.Pushes.{zeros-set}
 
 zeros-replicate : (n : ℕ) → zeros (replicate n 0) ≡ n

@@ -2,10 +2,10 @@
 use mathlib.Core.Path.{_≡_, refl, sym, ap, _∙_, subst}
 use mathlib.Core.List.{List, [], _∷_, _++_, map}
 use mathlib.Core.Logic.{_⊎_, inl, inr, ⊎-elim}
-use Prim.Native.Nat.{ℕ, suc, _+_, _<_, _≤_}
+use Prim.Native.Nat.{ℕ, _<_}
 use native.Mathlib.Omega.{arith}
 use lib.ListN.{length}
-use Rattle.std.proofs.shelf.Lists.{length-append, length-push, length-map}
+use Rattle.std.proofs.shelf.Lists.{length-push, length-map}
 use Rattle.models.specs.Strings.{Before, Leads}
 
 abbrev pub LexLt : List ℕ → List ℕ → Type 0

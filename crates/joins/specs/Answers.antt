@@ -4,9 +4,11 @@
 --   put-text b v at text          the text table then
 --   appended o v at room taken    the same for the bridge in an Option; without one no string exists
 --   appended-text o v at text     the text table then
+--   passed-or o from rest         the refusal of a context that is stopped at the place in o, counted from `from`, or else the rest
 --   passed m u v rest             the refusal of a context, the left one first, or else the rest
 --   joined A m u v room           the answer of a join whose work table is long enough
 --   answer A m u v room words     the answer of a join, with so many words in the work table
+--   written o u v text            the text table with the string of a bridge at its front
 --   text-after r A m u v text     the text table after the answer r: the joined string and the rest, or as it was
 --   work-after m words            the work table after a join: four words for each state zero, or too short and as it was
 use mathlib.Core.Bool.{cond}
@@ -43,12 +45,11 @@ abbrev pub appended-text : {K : Type 0} → Option (Bridge K) → List K → ℕ
 appended-text (Some b) v at text = put-text b v at text
 appended-text None v at text = text
 
--- contexts of at most 50,000 letters that pass alone, and then the rest; the place of a stop in the right one counts on
--- from the end of the left
 abbrev pub passed-or : {T : Type 0} → Option ℕ → ℕ → Result T Fault → Result T Fault
 passed-or (Some i) from rest = Err (stopped-context (from + i))
 passed-or None from rest = rest
 
+-- contexts of at most 50,000 letters that pass alone; a place in the right one counts on from the end of the left
 abbrev pub passed : {K T : Type 0} → Model K → List K → List K → Result T Fault → Result T Fault
 passed m u v rest =
     cond (ltb 50000 (length u)) (Err (long-context (length u)))
@@ -61,7 +62,6 @@ joined A m u v room = passed m u v (appended (join A m u v) v (length u) room 0)
 abbrev pub answer : {K : Type 0} → Alphabet K → Model K → List K → List K → ℕ → ℕ → Result Joined Fault
 answer A m u v room words = cond (ltb words (4 * m .count)) (Err (short-work (4 * m .count))) (joined A m u v room)
 
--- the string of a bridge at the front of the text table
 abbrev pub written : {K : Type 0} → Option (Bridge K) → List K → List K → List K → List K
 written (Some b) u v text = (u ++ row b v) ++ drop (length (u ++ row b v)) text
 written None u v text = text

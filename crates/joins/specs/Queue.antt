@@ -2,23 +2,27 @@
 --
 -- Tables by place in the queue: q has the state, p the place of the state that led to it, l the number of the letter
 -- between them. Places below head are done: every step from their states was tried.
---   step-by A m            the automaton's steps by the numbers of the letters
---   PairLt a b c d         the pair (a, b) stands before the pair (c, d)
---   Queued q p l n u i c   u has a place below n, reached no later than by the letter c from the place i
---   Searched               what the tables show between two steps
---   Paused, Going          the same with the marks of the states that have a place, between two states of the queue,
---                          and in the midst of the letters of one, of which those below c are done
---   Goalless goal h q      no state of a place below h is a goal
---   Explored               the first place whose state is a goal, or that no state has
+--   Picks number fill pick    pick gives each letter of fill by its number, and no other letter
+--   step-by pick m            the automaton's steps by the numbers of the letters that may be filled in
+--   by xs i                   a table as a function of the place
+--   PairLt a b c d            the pair (a, b) stands before the pair (c, d)
+--   Queued q p l n u i c      u has a place below n, reached no later than by the letter c from the place i
+--   Searched                  what the tables show between two steps
+--   zeros xs                  how many states have no mark
+--   Placed q n s              the state s has a place below n
+--   Marked                    the marked states are those with a place
+--   Paused, Going             the search between two states of the queue, and in the midst of the letters of one, of
+--                             which those below c are done
+--   Goalless goal h q         no state of a place below h is a goal
+--   Found, Nothing, Explored  the first place whose state is a goal; no state that can be reached is one; either
 use mathlib.Core.Path.{_≡_}
 use mathlib.Core.Bool.{Bool, true}
-use mathlib.Core.List.{List, [], _∷_}
+use mathlib.Core.List.{List, [], _∷_, List·Memᴰ}
 use mathlib.Core.Logic.{_⊎_}
 use Prim.Native.Nat.{ℕ, zero, suc, _+_, _<_, _≤_}
 use lib.ListN.{getD}
 use Rattle.std.specs.declared.option.Option.{Option}
 use Rattle.std.specs.declared.option.Option.the-variants.{Some, None}
-use Rattle.models.specs.Alphabet.{Alphabet}
 use Rattle.models.specs.Automaton.{Next, Model}
 
 -- from a state by a letter, if there is one
@@ -26,8 +30,13 @@ abbrev pub step-from : {K : Type 0} → Next K → ℕ → Option K → Option �
 step-from next q (Some x) = next q x
 step-from next q None = None
 
-abbrev pub step-by : {K : Type 0} → Alphabet K → Model K → Next ℕ
-step-by A m q c = step-from (m .next) q (A .letter c)
+pub record Picks {K : Type 0} (number : K → ℕ) (fill : List K) (pick : ℕ → Option K) : Type 0 where
+  pub sound : (c : ℕ) (x : K) → pick c ≡ Some x → number x ≡ c
+  pub within : (c : ℕ) (x : K) → pick c ≡ Some x → List·Memᴰ x fill
+  pub all : (x : K) → List·Memᴰ x fill → pick (number x) ≡ Some x
+
+abbrev pub step-by : {K : Type 0} → (ℕ → Option K) → Model K → Next ℕ
+step-by pick m q c = step-from (m .next) q (pick c)
 
 abbrev pub by : List ℕ → ℕ → ℕ
 by xs i = getD xs i 0

@@ -19,7 +19,12 @@ use faults::Fault;
 use letters::Letter;
 
 // Writes what an overlap leaves of `right` at the place `at`.
-fn put_rest<K: Letter>(right: &[K], shared: usize, text: &mut [K], at: usize) -> Result<Joined, Fault>
+fn put_rest<K: Letter>(
+    right: &[K],
+    shared: usize,
+    text: &mut [K],
+    at: usize,
+) -> Result<Joined, Fault>
     requires { ⌜ shared ≤ length (now right) ⌝ ∗ ⌜ at + length (now right) < 2 ^ 63 ⌝ }
     ensures answer { λ r. ⌜ r ≡ put (record { overlap = shared; filling = [] }) (now (right .entry)) at (length (now (text .entry))) ⌝ }
     ensures text { λ _. ⌜ now (text .exit) ≡ put-text (record { overlap = shared; filling = [] }) (now (right .entry)) at (now (text .entry)) ⌝ }
@@ -29,7 +34,11 @@ fn put_rest<K: Letter>(right: &[K], shared: usize, text: &mut [K], at: usize) ->
         return Err(Fault::short_text(end));
     }
     text[at..end].copy_from_slice(&right[shared..]);
-    Ok(Joined { length: end, overlap: shared, filled: 0 })
+    Ok(Joined {
+        length: end,
+        overlap: shared,
+        filled: 0,
+    })
 }
 
 // Writes the letters that lead to a place in the queue, and then `right`, at the place `at`.
@@ -42,10 +51,10 @@ fn put_filling<K: Letter>(
     at: usize,
 ) -> Result<Joined, Fault>
     requires within { ⌜ place < length (now parents) ⌝ ∗ ⌜ place < length (now letters) ⌝ }
-    requires traced { ⌜ Traced alphabet (by (now parents)) (by (now letters)) place ⌝ }
+    requires traced { ⌜ Traced (alphabet .letter) (by (now parents)) (by (now letters)) place ⌝ }
     requires small { ⌜ at + length (now right) < 2 ^ 63 ⌝ }
-    ensures answer { λ r. ⌜ r ≡ put (record { overlap = 0; filling = spelling alphabet (by (now (parents .entry))) (by (now (letters .entry))) place }) (now (right .entry)) at (length (now (text .entry))) ⌝ }
-    ensures text { λ _. ⌜ now (text .exit) ≡ put-text (record { overlap = 0; filling = spelling alphabet (by (now (parents .entry))) (by (now (letters .entry))) place }) (now (right .entry)) at (now (text .entry)) ⌝ }
+    ensures answer { λ r. ⌜ r ≡ put (record { overlap = 0; filling = spelling (alphabet .letter) (by (now (parents .entry))) (by (now (letters .entry))) place }) (now (right .entry)) at (length (now (text .entry))) ⌝ }
+    ensures text { λ _. ⌜ now (text .exit) ≡ put-text (record { overlap = 0; filling = spelling (alphabet .letter) (by (now (parents .entry))) (by (now (letters .entry))) place }) (now (right .entry)) at (now (text .entry)) ⌝ }
 {
     let filled = depth(parents, place);
     let middle = at + filled;
@@ -55,7 +64,11 @@ fn put_filling<K: Letter>(
     }
     spell(parents, letters, place, &mut text[at..middle]);
     text[middle..end].copy_from_slice(right);
-    Ok(Joined { length: end, overlap: 0, filled })
+    Ok(Joined {
+        length: end,
+        overlap: 0,
+        filled,
+    })
 }
 
 // Appends the filling and `right`: the search, and what it finds written at the place `at`. `taken` is the place of the

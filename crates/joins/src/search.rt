@@ -12,7 +12,7 @@ use letters::Letter;
 
 // The next state by the letter with a number.
 fn step_by<S: Automaton>(automaton: &S, state: u16, number: u8) -> Option<u16>
-    ensures { λ r. ⌜ r ≡ step-by (Kind·Letter .alphabet) (model (now (automaton .entry))) state number ⌝ }
+    ensures { λ r. ⌜ r ≡ step-by (Kind·Letter .alphabet .letter) (model (now (automaton .entry))) state number ⌝ }
 {
     match S::Kind::from_number(number) {
         Some(letter) => automaton.step(state, letter),
@@ -32,8 +32,8 @@ fn expand<S: Automaton>(
 ) -> u16
     requires long { ⌜ length (now seen) ≡ model (now automaton) .count ⌝ ∗ ⌜ length (now queue) ≡ model (now automaton) .count ⌝ ∗ ⌜ length (now parents) ≡ model (now automaton) .count ⌝ ∗ ⌜ length (now letters) ≡ model (now automaton) .count ⌝ }
     requires here { ⌜ head < tail ⌝ }
-    requires paused { ⌜ Paused (step-by (Kind·Letter .alphabet) (model (now automaton))) (getD (now queue) 0 0) (model (now automaton) .count) head tail (now seen) (by (now queue)) (by (now parents)) (by (now letters)) ⌝ }
-    ensures paused { λ r. ⌜ Paused (step-by (Kind·Letter .alphabet) (model (now (automaton .entry)))) (getD (now (queue .entry)) 0 0) (model (now (automaton .entry)) .count) (head + 1) r (now (seen .exit)) (by (now (queue .exit))) (by (now (parents .exit))) (by (now (letters .exit))) ⌝ }
+    requires paused { ⌜ Paused (step-by (Kind·Letter .alphabet .letter) (model (now automaton))) (getD (now queue) 0 0) (model (now automaton) .count) head tail (now seen) (by (now queue)) (by (now parents)) (by (now letters)) ⌝ }
+    ensures paused { λ r. ⌜ Paused (step-by (Kind·Letter .alphabet .letter) (model (now (automaton .entry)))) (getD (now (queue .entry)) 0 0) (model (now (automaton .entry)) .count) (head + 1) r (now (seen .exit)) (by (now (queue .exit))) (by (now (parents .exit))) (by (now (letters .exit))) ⌝ }
     ensures kept { λ _. ⌜ ((i : ℕ) → i < tail → getD (now (queue .exit)) i 0 ≡ getD (now (queue .entry)) i 0) ⌝ }
 {
     let state = queue[head as usize];
@@ -65,7 +65,7 @@ pub fn explore<S: Automaton>(
     requires among { ⌜ start < model (now automaton) .count ⌝ }
     requires unmarked { ⌜ now seen ≡ replicate (model (now automaton) .count) 0 ⌝ }
     requires long { ⌜ length (now queue) ≡ model (now automaton) .count ⌝ ∗ ⌜ length (now parents) ≡ model (now automaton) .count ⌝ ∗ ⌜ length (now letters) ≡ model (now automaton) .count ⌝ }
-    ensures explored { λ r. ⌜ Explored (step-by (Kind·Letter .alphabet) (model (now (automaton .entry)))) (serves (model (now (automaton .entry))) (now (right .entry))) start (by (now (queue .exit))) (by (now (parents .exit))) (by (now (letters .exit))) r ⌝ }
+    ensures explored { λ r. ⌜ Explored (step-by (Kind·Letter .alphabet .letter) (model (now (automaton .entry)))) (serves (model (now (automaton .entry))) (now (right .entry))) start (by (now (queue .exit))) (by (now (parents .exit))) (by (now (letters .exit))) r ⌝ }
     ensures within { λ r. ⌜ ((i : ℕ) → r ≡ Some i → i < model (now (automaton .entry)) .count) ⌝ }
 {
     seen[start as usize] = 1;

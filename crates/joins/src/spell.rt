@@ -24,9 +24,9 @@ pub fn depth(parents: &[u16], place: u16) -> usize
 // Writes the letters that lead to `place`, from the last to the first; `out` has room for just these.
 pub fn spell<K: Letter>(parents: &[u16], letters: &[u16], place: u16, out: &mut [K])
     requires within { ⌜ place < length (now parents) ⌝ ∗ ⌜ place < length (now letters) ⌝ }
-    requires traced { ⌜ Traced alphabet (by (now parents)) (by (now letters)) place ⌝ }
+    requires traced { ⌜ Traced (alphabet .letter) (by (now parents)) (by (now letters)) place ⌝ }
     requires room { ⌜ length (now out) ≡ length (numbers (by (now parents)) (by (now letters)) place) ⌝ }
-    ensures { λ _. ⌜ now (out .exit) ≡ spelling alphabet (by (now (parents .entry))) (by (now (letters .entry))) place ⌝ }
+    ensures { λ _. ⌜ now (out .exit) ≡ spelling (alphabet .letter) (by (now (parents .entry))) (by (now (letters .entry))) place ⌝ }
 {
     let mut at = place;
     let mut left = out.len();

@@ -1,5 +1,5 @@
 use mathlib.Core.Path.{_≡_, refl, sym, ap, _∙_}
-use Prim.Native.Nat.{ℕ, _-_, _*_, _<_, _≤_}
+use Prim.Native.Nat.{ℕ, _-_, _*_}
 use native.Mathlib.Omega.{arith}
 use lib.Dec.{ltb}
 use lib.ListN.{length, replicate}
@@ -8,7 +8,6 @@ use Rattle.std.proofs.shelf.Tests.{lt-ltb, le-ltb, cond-true, cond-false}
 use Rattle.std.proofs.shelf.Lists.{length-take-le}
 use Rattle.faults.specs.Causes.{short-work}
 use Rattle.joinlaw.proofs.Joins.{join-law}
-use Rattle.joins.specs.Answers.{joined}
 use Rattle.joins.proofs.Joinings.{work-short, work-zero}
 use Rattle.joins.proofs.contexts.join.Needs as need
 

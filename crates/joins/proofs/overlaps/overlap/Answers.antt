@@ -1,11 +1,8 @@
-use mathlib.Core.Path.{_≡_, refl, sym, ap, _∙_}
-use mathlib.Core.Bool.{true, false}
-use Prim.Native.Nat.{ℕ, _+_, _-_, _<_, _≤_}
+use mathlib.Core.Path.{sym, ap, _∙_}
 use native.Mathlib.Omega.{arith}
-use lib.ListN.{length}
 use Rattle.std.specs.Options.{isSome}
 use Rattle.std.proofs.shelf.Tests.{and-from, and-left, and-right}
-use Rattle.joins.proofs.Merging.{overlap-hit, overlap-miss, overlap-zero, same-parts, serves-rest}
+use Rattle.joins.proofs.Merging.{overlap-hit, overlap-miss, same-parts, serves-rest}
 use Rattle.joins.proofs.overlaps.overlap.Needs as need
 use Rattle.joins.proofs.overlaps.overlap.Needs.{else-same·by·then-same·else-is-some, else-same·by·else-same}
 
@@ -36,9 +33,9 @@ loop-shared-again g c =
     let some = c .loop-shared-test .taken in (
       omega arith,
       c .loop-shared .inv .1
-      ∙ overlap-miss A m q u v o some
-      (elim (c .else-same .came) [
-        | else-same·by·then-same·else-is-some w ↦ and-right _ _ (sym (serves-rest A m q u v o) ∙ ap isSome (sym (w .walk .ensures)) ∙ sym (w .is-some .ensures) ∙ w .if-is-some .left)
-        | else-same·by·else-same w ↦ and-left _ _ (sym (same-parts A m q u v o) ∙ sym (c .same .ensures) ∙ w .if-same .left)
-      ]),
+          ∙ overlap-miss A m q u v o some
+          (elim (c .else-same .came) [
+            | else-same·by·then-same·else-is-some w ↦ and-right _ _ (sym (serves-rest A m q u v o) ∙ ap isSome (sym (w .walk .ensures)) ∙ sym (w .is-some .ensures) ∙ w .if-is-some .left)
+            | else-same·by·else-same w ↦ and-left _ _ (sym (same-parts A m q u v o) ∙ sym (c .same .ensures) ∙ w .if-same .left)
+          ]),
     )

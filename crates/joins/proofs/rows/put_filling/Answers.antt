@@ -1,8 +1,7 @@
-use mathlib.Core.Path.{_≡_, refl, sym, ap, _∙_}
-use mathlib.Core.List.{List, []}
-use Prim.Native.Nat.{ℕ, _+_, _-_, _<_, _≤_}
+use mathlib.Core.Path.{_≡_, sym, ap, _∙_}
+use Prim.Native.Nat.{_+_}
 use native.Mathlib.Omega.{arith}
-use lib.ListN.{length, take, drop}
+use lib.ListN.{length}
 use Rattle.std.specs.declared.result.Result.the-variants.{Ok, Err}
 use Rattle.std.proofs.shelf.Lists.{length-append}
 use Rattle.joins.specs.Queue.{by}
@@ -28,9 +27,9 @@ add-end g c =
 pub returns-then-end-text : need.returns-then-end-text
 returns-then-end-text g c =
     let v = c .args .right .now in
-    let z = spelling (g .K·Letter .alphabet) (by (c .args .parents .now)) (by (c .args .letters .now)) (c .args .place) in
+    let z = spelling (g .K·Letter .alphabet .letter) (by (c .args .parents .now)) (by (c .args .letters .now)) (c .args .place) in
     let n = c .depth-filled .ensures (by (c .args .letters .now)) in
-    let k = length-spelling (g .K·Letter .alphabet) (by (c .args .parents .now)) (by (c .args .letters .now)) (c .args .place) (c .pre .traced) (g .K·Letter .numbered) in
+    let k = length-spelling (g .K·Letter .alphabet .letter) (by (c .args .parents .now)) (by (c .args .letters .now)) (c .args .place) (c .pre .traced) in
     let l = length-append z v in
     let short = c .if-end-text .taken in
     record {
@@ -44,9 +43,9 @@ returns g c =
     let text = c .args .text .now in
     let at = c .args .at in
     let middle = at + c .depth-filled .result in
-    let z = spelling (g .K·Letter .alphabet) (by (c .args .parents .now)) (by (c .args .letters .now)) (c .args .place) in
+    let z = spelling (g .K·Letter .alphabet .letter) (by (c .args .parents .now)) (by (c .args .letters .now)) (c .args .place) in
     let n = c .depth-filled .ensures (by (c .args .letters .now)) in
-    let k = length-spelling (g .K·Letter .alphabet) (by (c .args .parents .now)) (by (c .args .letters .now)) (c .args .place) (c .pre .traced) (g .K·Letter .numbered) in
+    let k = length-spelling (g .K·Letter .alphabet .letter) (by (c .args .parents .now)) (by (c .args .letters .now)) (c .args .place) (c .pre .traced) in
     let l = length-append z v in
     let fits = c .if-end-text .left in
     let same : c .depth-filled .result ≡ length z = omega arith in

@@ -1,9 +1,7 @@
-use mathlib.Core.Path.{_≡_, sym}
-use mathlib.Core.List.{List}
-use Prim.Native.Nat.{ℕ, _+_, _<_}
+use mathlib.Core.Path.{sym}
+use Prim.Native.Nat.{_<_}
 use native.Mathlib.Omega.{arith}
-use lib.ListN.{length, getD}
-use Rattle.joins.proofs.Expansions.{Expanding, expanding-to, expanding-room, expanding-none, expanding-seen, expanding-new, expanding-end}
+use Rattle.joins.proofs.Expansions.{expanding-to, expanding-room, expanding-none, expanding-seen, expanding-new, expanding-end}
 use Rattle.joins.proofs.search.expand.Given as given
 use Rattle.joins.proofs.search.expand.Needs as need
 use Rattle.joins.proofs.search.expand.Needs.{in-Some·then-seen-to-eq0, in-Some·else-seen-to-eq0, in-rest}
@@ -57,6 +55,6 @@ returns g c =
     let x = c .loop-number .inv in
     let l = g .S·Automaton .lawful (c .args .automaton .now) in
     record {
-      paused = expanding-end _ _ l _ _ _ _ _ _ _ _ _ x (g .Kind·Letter .numbered) (let size = c .count-number-end .ensures in omega arith);
+      paused = expanding-end _ _ l _ _ _ _ _ _ _ _ _ x (g .Kind·Letter .alphabet .size) (g .Kind·Letter .numbered .past) (let size = c .count-number-end .ensures in omega arith);
       kept = x .kept;
     }

@@ -1,11 +1,10 @@
 use mathlib.Core.Path.{_≡_, sym, ap, _∙_}
-use mathlib.Core.Bool.{true, false}
-use Prim.Native.Nat.{ℕ, _+_, _<_, _≤_, _^_}
+use Prim.Native.Nat.{ℕ}
 use native.Mathlib.Omega.{arith}
-use lib.ListN.{length, replicate}
+use lib.ListN.{length}
 use Rattle.std.specs.Options.{isSome}
 use Rattle.std.proofs.shelf.Lists.{length-replicate}
-use Rattle.joins.proofs.Explorations.{Exploring, exploring-start, paused-first, exploring-turn, exploring-found, exploring-none}
+use Rattle.joins.proofs.Explorations.{exploring-start, paused-first, exploring-turn, exploring-found, exploring-none}
 use Rattle.joins.proofs.search.explore.Needs as need
 
 pub index-seen-start : need.index-seen-start

@@ -11,7 +11,7 @@ loop-at-again c =
     let lower = c .pre .earlier (c .loop-at .at) some (omega arith) in (
       omega arith,
       λ ls.
-      let n = length-numbers (by (c .args .parents .now)) ls (c .args .place) (c .pre .earlier) (c .loop-at .at) some (omega arith) in
-      let k = inv .1 ls in
-      omega arith,
+          let n = length-numbers (by (c .args .parents .now)) ls (c .args .place) (c .pre .earlier) (c .loop-at .at) some (omega arith) in
+          let k = inv .1 ls in
+          omega arith,
     )

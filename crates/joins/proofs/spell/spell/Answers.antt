@@ -1,8 +1,9 @@
-use mathlib.Core.Path.{_≡_, refl, sym, ap, _∙_}
-use Prim.Native.Nat.{ℕ, _-_, _<_, _≤_}
+use mathlib.Core.Path.{sym}
+use mathlib.Core.Logic.{⊎-elim}
 use native.Mathlib.Omega.{arith}
-use Rattle.joins.specs.Queue.{by}
-use Rattle.joins.proofs.Traces.{Spelled, spelled-start, spelled-turn, spelled-some, spelled-end, letter-some}
+use lib.ListN.{getD}
+use Rattle.std.proofs.shelf.Tests.{cases-lt}
+use Rattle.joins.proofs.Traces.{spelled-start, spelled-turn, spelled-some, spelled-end, letter-some}
 use Rattle.joins.proofs.spell.spell.Needs as need
 use Rattle.joins.proofs.spell.spell.Needs.{in-Some, in-rest}
 
@@ -14,9 +15,11 @@ sub-left g c = spelled-some _ _ _ (c .args .place) (c .pre .traced) (c .loop-at 
 
 pub cast-letters : need.cast-letters
 cast-letters g c =
-    let low = c .pre .traced .letter (c .loop-at .at) (c .loop-at-test .taken) (c .loop-at .inv .within) in
     let few = g .K·Letter .numbered .few in
-    omega arith
+    ⊎-elim
+    (λ lt. omega arith)
+    (λ ge. absurd (letter-some _ _ _ (c .args .place) (c .pre .traced) (c .loop-at .at) (c .loop-at-test .taken) (c .loop-at .inv .within) (g .K·Letter .numbered .past (getD (c .args .letters .now) (c .loop-at .at) 0) ge)))
+    (cases-lt (getD (c .args .letters .now) (c .loop-at .at) 0) (g .K·Letter .alphabet .size))
 
 pub index-out-left : need.index-out-left
 index-out-left g c =
@@ -29,7 +32,7 @@ loop-at-again g c =
     let some = c .loop-at-test .taken in
     elim (c .match-from-number .came) [
       | in-Some w ↦ rw (w .out-is) (spelled-turn _ _ _ (c .args .place) (c .pre .traced) (c .loop-at .at) (c .loop-at .left) (c .loop-at .out) (w .in-Some .letter) (c .loop-at .inv) some (sym (w .in-Some .ensures tt)))
-      | in-rest w ↦ absurd (letter-some _ _ _ (c .args .place) (c .pre .traced) (g .K·Letter .numbered) (c .loop-at .at) some (c .loop-at .inv .within) (sym (w .in-rest .ensures tt)))
+      | in-rest w ↦ absurd (letter-some _ _ _ (c .args .place) (c .pre .traced) (c .loop-at .at) some (c .loop-at .inv .within) (sym (w .in-rest .ensures tt)))
     ]
 
 pub returns : need.returns
