@@ -10,20 +10,20 @@ use Rattle.models.specs.Alphabet.{Alphabet, Numbered}
 use Rattle.models.specs.Automaton.{Model, Lawful}
 use Rattle.models.specs.Strings.{Least}
 use Rattle.joinlaw.specs.Bridges.{Bridge, row, next-row}
-use Rattle.joinlaw.specs.Laws.{Follows, NextRowIs}
 use Rattle.joinlaw.proofs.NextRows.{next-row-law}
-use Rattle.sheetlaw.specs.Rows.{Serves, Meet, Rows}
+use Rattle.joinlaw.specs.Laws.{Continues, Follows, NextRowIs}
+use Rattle.sheetlaw.specs.Rows.{Meet, Rows}
 use Rattle.sheetlaw.proofs.Openings.{opening-fits}
 use Rattle.sheetlaw.proofs.Laws.{sheet-law}
 use Rattle.sheetlaw.proofs.Steps.{followed-opened, followed-letter, followed-gap}
 use Rattle.sheetlaw.specs.Calls.{Turn, letter, gap}
 use Rattle.sheetlaw.specs.Step.{Contents, opening, opened, needs, answers, leaves, writes, cleared, pauses, leaves-gap}
 use Rattle.sheetlaw.specs.Law.{Followed}
 use Rattle.sheetlaw.specs.declared.Answer.{Answer}
 use Rattle.faults.specs.declared.Fault.{Fault}
 use Rattle.std.specs.declared.result.Result.{Result}
 use Rattle.std.specs.declared.result.Result.the-variants.{Ok, Err}
-use Rattle.sheetrow.specs.NextRow.{appended-by, row-of, Every-sheet}
+use Rattle.sheetlaw.specs.NextRow.{appended-by, row-of, Every-sheet}
 
 module _ {K : Type 0} (A : Alphabet K) (numbered : Numbered A) (m : Model K) (laws : Lawful m) (k : ℕ) (some : 2 ≤ k) (recalls : m .memory ≤ k) where
   follows : (t u w : List K) → Meet m k t u w → Follows m t u w
@@ -32,11 +32,11 @@ module _ {K : Type 0} (A : Alphabet K) (numbered : Numbered A) (m : Model K) (la
       let r : length w ≡ k = i .right in
       record { passes = i .text; ends = i .ends; some = omega arith; long = l ∙ sym r; memory = omega arith }
 
-  is-least : (t w : List K) (o : Option (Bridge K)) → NextRowIs A m t w o → (r : List K) → appended-by o w ≡ Some r → Least (A .number) (Serves m t w) r
-  is-least t w (Some b) i r e = let same : row b w ≡ r = cc in subst (Least (A .number) (Serves m t w)) same (i .0)
+  is-least : (t w : List K) (o : Option (Bridge K)) → NextRowIs A m t w o → (r : List K) → appended-by o w ≡ Some r → Least (A .number) (Continues m t w) r
+  is-least t w (Some b) i r e = let same : row b w ≡ r = cc in subst (Least (A .number) (Continues m t w)) same (i .0)
   is-least t w None i r e = absurd (let z : _≡_ {A = ℕ} 0 1 = cc in omega arith)
 
-  is-none : (t w : List K) (o : Option (Bridge K)) → NextRowIs A m t w o → appended-by o w ≡ None → (r : List K) → Serves m t w r → ⊥
+  is-none : (t w : List K) (o : Option (Bridge K)) → NextRowIs A m t w o → appended-by o w ≡ None → (r : List K) → Continues m t w r → ⊥
   is-none t w (Some b) i e r s = absurd (let z : _≡_ {A = ℕ} 0 1 = cc in omega arith)
   is-none t w None i e r s = i r s
 

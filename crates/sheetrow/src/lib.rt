@@ -1,1 +1,0 @@
-// The law of a sheet whose rows are those of the join: no code.
