@@ -43,7 +43,7 @@ passed-rest m u v x rest =
 
 -- the left context, written before the row, makes the string whole
 module _ {K : Type 0} (u v text : List K) (j : Joined) where
-  pub front-written : (o : Option (Bridge K)) → appended o v (length u) (length text) 0 ≡ Ok j → u ++ drop (length u) (appended-text o v (length u) text) ≡ written o u v text
+  pub front-written : (o : Option (Bridge K)) → appended o v (length u) (length text) ≡ Ok j → u ++ drop (length u) (appended-text o v (length u) text) ≡ written o u v text
   front-written None e = never _ _ _ e
   front-written (Some b) e = ⊎-elim
       (λ short. never _ _ _ (sym (put-short b v (length u) (length u + length (row b v)) refl (length text) short) ∙ e))

@@ -10,3 +10,4 @@ pub mod Puts
 pub mod Traces
 pub mod Stops
 pub mod Joinings
+pub mod Writings

@@ -7,7 +7,7 @@ use lib.Dec.{leb}
 use lib.ListN.{length, take, drop}
 use borrow.Rule.Slice.PartMut.{putMid}
 use Rattle.std.specs.declared.result.Result.the-variants.{Ok, Err}
-use Rattle.std.proofs.shelf.Lists.{append-assoc, length-append, length-take-le, take-all, take-at, drop-at, drop-drop}
+use Rattle.std.proofs.shelf.Lists.{append-assoc, take-all}
 use Rattle.std.proofs.shelf.Parts.{putMid-paste}
 use Rattle.std.proofs.shelf.Tests.{le-leb, lt-leb, cond-true, cond-false}
 use Rattle.faults.specs.Causes.{short-text}
@@ -40,19 +40,3 @@ mid-is a k end text ys zs e n is =
     ∙ append-assoc (take a text) (take k zs) (drop (a + k) text)
     ∙ ap (λ w. take a text ++ (w ++ drop (a + k) text)) (take-all k zs (omega arith))
     ∙ ap (λ i. take a text ++ (zs ++ drop i text)) (sym is)
-
--- a part after another
-pub parts-are : {K : Type 0} (at middle end : ℕ) (text z v : List K) → middle ≡ at + length z → end ≡ middle + length v → at ≤ length text → (now : List K) → now ≡ take at text ++ (z ++ drop middle text) → take middle now ++ (v ++ drop end now) ≡ take at text ++ ((z ++ v) ++ drop end text)
-parts-are at middle end text z v mid is fits now e =
-    let front = take at text ++ z in
-    let now-is : now ≡ front ++ drop middle text = e ∙ sym (append-assoc (take at text) z (drop middle text)) in
-    let n = length-take-le at text fits in
-    let k = length-append (take at text) z in
-    let long : length front ≡ middle = omega arith in
-    let before : take middle now ≡ front = ap (take middle) now-is ∙ take-at front (drop middle text) middle long in
-    let from-middle : drop middle now ≡ drop middle text = ap (drop middle) now-is ∙ drop-at front (drop middle text) middle long in
-    let after : drop end now ≡ drop end text = ap (λ i. drop i now) is ∙ sym (drop-drop (length v) middle now) ∙ ap (drop (length v)) from-middle ∙ drop-drop (length v) middle text ∙ ap (λ i. drop i text) (sym is) in
-    ap (λ w. w ++ (v ++ drop end now)) before
-    ∙ ap (λ w. front ++ (v ++ w)) after
-    ∙ append-assoc (take at text) z (v ++ drop end text)
-    ∙ ap (λ w. take at text ++ w) (sym (append-assoc z v (drop end text)))

@@ -2,7 +2,7 @@
 --
 --   put b v at room               the answer for a bridge whose row goes to the place at of a text table with so much room
 --   put-text b v at text          the text table then
---   appended o v at room taken    the same for the bridge in an Option; without one no string exists
+--   appended o v at room          the same for the bridge in an Option; without one no string exists
 --   appended-text o v at text     the text table then
 --   passed-or o from rest         the refusal of a context that is stopped at the place in o, counted from `from`, or else the rest
 --   passed m u v rest             the refusal of a context, the left one first, or else the rest
@@ -37,9 +37,9 @@ abbrev pub put-text : {K : Type 0} → Bridge K → List K → ℕ → List K �
 put-text b v at text =
     cond (leb (at + length (row b v)) (length text)) (take at text ++ (row b v ++ drop (at + length (row b v)) text)) text
 
-abbrev pub appended : {K : Type 0} → Option (Bridge K) → List K → ℕ → ℕ → ℕ → Result Joined Fault
-appended (Some b) v at room taken = put b v at room
-appended None v at room taken = Err (no-string taken)
+abbrev pub appended : {K : Type 0} → Option (Bridge K) → List K → ℕ → ℕ → Result Joined Fault
+appended (Some b) v at room = put b v at room
+appended None v at room = Err (no-string 0)
 
 abbrev pub appended-text : {K : Type 0} → Option (Bridge K) → List K → ℕ → List K → List K
 appended-text (Some b) v at text = put-text b v at text
@@ -57,7 +57,7 @@ passed m u v rest =
     (passed-or (stopped m u) 0 (passed-or (stopped m v) (length u) rest)))
 
 abbrev pub joined : {K : Type 0} → Alphabet K → Model K → List K → List K → ℕ → Result Joined Fault
-joined A m u v room = passed m u v (appended (join A m u v) v (length u) room 0)
+joined A m u v room = passed m u v (appended (join A m u v) v (length u) room)
 
 abbrev pub answer : {K : Type 0} → Alphabet K → Model K → List K → List K → ℕ → ℕ → Result Joined Fault
 answer A m u v room words = cond (ltb words (4 * m .count)) (Err (short-work (4 * m .count))) (joined A m u v room)

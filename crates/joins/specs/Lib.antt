@@ -1,3 +1,4 @@
 pub mod Queue
 pub mod Spelling
+pub mod Ways
 pub mod Answers

@@ -51,16 +51,7 @@ fn within<S: Automaton>(
     let marks = Marks { words };
     passing(automaton, left, right)?;
     let most = left.len().min(right.len());
-    let joined = append(
-        automaton,
-        left,
-        right,
-        most,
-        text,
-        left.len(),
-        0,
-        marks.words,
-    )?;
+    let joined = append(automaton, left, right, most, text, left.len(), marks.words)?;
     text[0..left.len()].copy_from_slice(left);
     Ok(joined)
 }

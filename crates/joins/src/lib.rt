@@ -7,8 +7,11 @@ mod overlaps;
 pub mod rows;
 mod search;
 mod spell;
+pub mod ways;
 
 pub use answers::Joined;
 pub use contexts::join;
 pub use marks::Marks;
-pub use rows::append;
+pub use rows::find;
+pub use rows::write;
+pub use ways::Way;

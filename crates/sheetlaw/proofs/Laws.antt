@@ -18,7 +18,8 @@ use Rattle.faults.specs.Causes.{bad-window, long-memory, no-string, short-text}
 use Rattle.models.specs.Automaton.{Model, Lawful, Pass, last}
 use Rattle.models.specs.Strings.{Ends, Least}
 use Rattle.sheetlaw.specs.Rivals.{Rival}
-use Rattle.sheetlaw.specs.Rows.{Serves, Rows}
+use Rattle.joinlaw.specs.Laws.{Continues}
+use Rattle.sheetlaw.specs.Rows.{Rows}
 use Rattle.sheetlaw.specs.Calls.{Turn, letter, gap, adds, taken, appended, filled, since, kept, tally}
 use Rattle.sheetlaw.specs.Step.{Contents, Outcome, wait, skip, keep, opening, opened, window, needs, row-to, decide, pauses, said, if-taken, carry, append, pause, write, cleared, answers, leaves, writes, leaves-gap, close}
 use Rattle.sheetlaw.specs.Runs.{after, Exact}
@@ -116,7 +117,7 @@ module _ {K : Type 0} (m : Model K) (number : K → ℕ) (k : ℕ) (row : List K
 
       -- what a kept letter appends
       grown : (o : Result (Outcome K) Fault) → Decided m k row (length work) (length t) s x o → (a b : ℕ) → said k o ≡ Ok (Kept a b)
-          → (r : List K) × Least number (Serves m (take n t) (window k s x)) r × (a ≡ length r) × (b ≡ a - k) × (take (n + a) (if-taken o (append s t) t) ≡ take n t ++ r)
+          → (r : List K) × Least number (Continues m (take n t) (window k s x)) r × (a ≡ length r) × (b ≡ a - k) × (take (n + a) (if-taken o (append s t) t) ≡ take n t ++ r)
       grown (Ok wait) d a b e = absurd (let z : _≡_ {A = ℕ} 0 1 = cc in omega arith)
       grown (Ok skip) d a b e = absurd (let z : _≡_ {A = ℕ} 0 1 = cc in omega arith)
       grown (Ok (keep v r)) (free, whole, here, same, room) a b e =
@@ -181,7 +182,7 @@ module _ {K : Type 0} (m : Model K) (number : K → ℕ) (k : ℕ) (row : List K
             subst (λ v. Refusals m (kept m k es) v (length t) (answers m k row (length work) (length t) s x)) same
             (refusals es n f s t holds x work l (subst (Pass m) (sym same) p) b early (decide m k row (length work) (length t) s x) (decided m k row (length work) (length t) s x));
         grows = λ x work a b q.
-            subst (λ v. (r : List K) × Least number (Serves m (take n t) v) r × (a ≡ length r) × (b ≡ a - k) × (take (n + a) (writes m k row (length work) s x t) ≡ take n t ++ r))
+            subst (λ v. (r : List K) × Least number (Continues m (take n t) v) r × (a ≡ length r) × (b ≡ a - k) × (take (n + a) (writes m k row (length work) s x t) ≡ take n t ++ r))
             (window-is m k t0 one es n f s t holds x)
             (grown es n f s t holds x work (decide m k row (length work) (length t) s x) (decided m k row (length work) (length t) s x) a b q);
         closed = holds .counts;

@@ -9,3 +9,4 @@ pub mod Sheets
 pub mod Laws
 pub mod Steps
 pub mod Examples
+pub mod NextRows

@@ -16,7 +16,8 @@ use Rattle.std.specs.declared.option.Option.{Option}
 use Rattle.std.specs.declared.option.Option.the-variants.{Some, None}
 use Rattle.models.specs.Automaton.{Model, Lawful, Pass, last}
 use Rattle.models.specs.Strings.{Least}
-use Rattle.sheetlaw.specs.Rows.{Serves, Rows}
+use Rattle.joinlaw.specs.Laws.{Continues}
+use Rattle.sheetlaw.specs.Rows.{Rows}
 use Rattle.sheetlaw.specs.Calls.{letters, since, windows, passes, kept, skipped}
 use Rattle.sheetlaw.specs.Step.{Contents, Outcome, wait, skip, keep, window, count, carry, pause, write, row-to}
 use Rattle.sheetlaw.specs.declared.Event.{Event}

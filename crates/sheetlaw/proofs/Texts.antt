@@ -15,7 +15,8 @@ use Rattle.std.specs.declared.option.Option.the-variants.{Some, None}
 use Rattle.models.specs.Automaton.{Model, Lawful, Pass}
 use Rattle.models.specs.Strings.{Ends, Before, Leads, Least}
 use Rattle.sheetlaw.specs.Rivals.{At, Rises, Has, Rival}
-use Rattle.sheetlaw.specs.Rows.{Serves, Meet, Rows}
+use Rattle.joinlaw.specs.Laws.{Continues}
+use Rattle.sheetlaw.specs.Rows.{Meet, Rows}
 use Rattle.sheetlaw.specs.Step.{row-to}
 use Rattle.sheetlaw.proofs.Passing.{at-fits, goes-on, between}
 use Rattle.sheetlaw.proofs.Places.{Within, at-put, rises-last, within-last, rises-push, within-push, within-more}
@@ -45,7 +46,7 @@ module _ {K : Type 0} (m : Model K) (k : ℕ) where
 module _ {K : Type 0} (m : Model K) (laws : Lawful m) (k : ℕ) (some : 2 ≤ k) (recalls : m .memory ≤ k) where
   -- each passing string that has the windows and then w gives a row from the text to w
   pub row-from : (o : Option (List K)) (ws : List (List K)) (t w s : List K) (q : ℕ) → Built m k o ws t → length w ≡ k → Pass m w → Pass m s → At w q s → Within s 0 q ws
-      → (r : List K) × Serves m t w r × (length t + length r ≤ q + k)
+      → (r : List K) × Continues m t w r × (length t + length r ≤ q + k)
   row-from None ws t w s q (e, f) l pw ps aw i = (w, (omega arith, rw f pw, ([], rw f)), simp f (omega arith))
   row-from (Some u) ws t w s q (us, e, b) l pw ps aw i =
       let g = within-last s 0 q us u (subst (λ v. Within s 0 q v) e i) in
@@ -61,7 +62,7 @@ module _ {K : Type 0} (m : Model K) (laws : Lawful m) (k : ℕ) (some : 2 ≤ k)
       (r, (omega (arith, c .1, g .2), on, ends), omega (arith, b .low s p ps (g .4) (g .3), c .1, g .2))
 
   -- the windows stand in the text with its new row, before the new window
-  placed : (o : Option (List K)) (ws : List (List K)) (t w r : List K) → Built m k o ws t → length w ≡ k → (f : Serves m t w r)
+  placed : (o : Option (List K)) (ws : List (List K)) (t w r : List K) → Built m k o ws t → length w ≡ k → (f : Continues m t w r)
       → Within (t ++ r) 0 (length (f .2 .0)) ws × All (λ u. length u ≡ k) ws
   placed None ws t w r (e, _) l f = rw e (tt, tt)
   placed (Some u) ws t w r (us, e, b) l f =
@@ -76,7 +77,7 @@ module _ {K : Type 0} (m : Model K) (laws : Lawful m) (k : ℕ) (some : 2 ≤ k)
       )
 
   -- the text with a shortest row is the text of the windows with one more
-  pub built-more : (number : K → ℕ) (o : Option (List K)) (ws : List (List K)) (t w r : List K) → Built m k o ws t → length w ≡ k → Pass m w → Least number (Serves m t w) r
+  pub built-more : (number : K → ℕ) (o : Option (List K)) (ws : List (List K)) (t w r : List K) → Built m k o ws t → length w ≡ k → Pass m w → Least number (Continues m t w) r
       → Built m k (Some w) (ws ++ w ∷ []) (t ++ r)
   built-more number o ws t w r b l pw least =
       let f = least .0 in
@@ -92,7 +93,7 @@ module _ {K : Type 0} (m : Model K) (laws : Lawful m) (k : ℕ) (some : 2 ≤ k)
           sized = p .1;
           low = λ s q ps aw i.
               let g = row-from o ws t w s q b l pw ps aw i in
-              omega (arith, length-append t r, least-short number (Serves m t w) r (g .0) least (g .1), g .2);
+              omega (arith, length-append t r, least-short number (Continues m t w) r (g .0) least (g .1), g .2);
         },
       )
 
@@ -112,18 +113,18 @@ module _ {K : Type 0} (m : Model K) (laws : Lawful m) (k : ℕ) (some : 2 ≤ k)
     meet ws t u w (us, e, b) l pw = record { left = b .whole; right = l; text = b .passes; ends = (b .front, b .ends); window = pw }
 
     -- of the rows after which the empty text ends with w, w itself is the least
-    first-row : (w : List K) → length w ≡ k → Pass m w → Least number (Serves m [] w) w
+    first-row : (w : List K) → length w ≡ k → Pass m w → Least number (Continues m [] w) w
     first-row w l pw = ((omega arith, pw, ([], refl)), λ r f. leads r (f .2 .0) (f .2 .1))
       where
         leads : (r a : List K) → r ≡ a ++ w → Leads number w r
         leads r [] e = rw e (inr (refl, before-itself number w))
         leads r (x ∷ a) e = inl (omega (arith, ap length e, length-append a w))
 
-    pub row-least : (o : Option (List K)) (ws : List (List K)) (t w r : List K) → Built m k o ws t → length w ≡ k → Pass m w → row-to row o w ≡ Some r → Least number (Serves m t w) r
+    pub row-least : (o : Option (List K)) (ws : List (List K)) (t w r : List K) → Built m k o ws t → length w ≡ k → Pass m w → row-to row o w ≡ Some r → Least number (Continues m t w) r
     row-least None ws t w r (_, f) l pw e = let same : w ≡ r = cc in rw (f, ← same) (first-row w l pw)
     row-least (Some u) ws t w r b l pw e = rows .serves t u w (meet ws t u w b l pw) r e
 
-    pub row-none : (o : Option (List K)) (ws : List (List K)) (t w : List K) → Built m k o ws t → length w ≡ k → Pass m w → row-to row o w ≡ None → (r : List K) → Serves m t w r → ⊥
+    pub row-none : (o : Option (List K)) (ws : List (List K)) (t w : List K) → Built m k o ws t → length w ≡ k → Pass m w → row-to row o w ≡ None → (r : List K) → Continues m t w r → ⊥
     row-none None ws t w b l pw e r f = absurd (let z : _≡_ {A = ℕ} 0 1 = cc in omega arith)
     row-none (Some u) ws t w b l pw e r f = rows .none t u w (meet ws t u w b l pw) e r f
 

@@ -27,7 +27,8 @@ use Rattle.faults.specs.declared.Fault.{Fault}
 use Rattle.models.specs.Automaton.{Model, Lawful, Pass, last}
 use Rattle.models.specs.Strings.{Ends, Least}
 use Rattle.sheetlaw.specs.Rivals.{Rival}
-use Rattle.sheetlaw.specs.Rows.{Serves, Rows}
+use Rattle.joinlaw.specs.Laws.{Continues}
+use Rattle.sheetlaw.specs.Rows.{Rows}
 use Rattle.sheetlaw.specs.Calls.{Turn, taken, appended, since, kept, tally}
 use Rattle.sheetlaw.specs.Step.{Contents, opening, opened, answers, writes, close}
 use Rattle.sheetlaw.specs.Runs.{after, Exact}
@@ -85,7 +86,7 @@ module _ {K : Type 0} (m : Model K) (number : K → ℕ) (k : ℕ) (row : List K
     -- a letter that is kept appends the shortest row of at least one letter after which the text passes and ends with its
     -- window, of equal ones the first in letter order; the letters above k count as filled in
     pub grows : (x : K) (work : List ℕ) (n f : ℕ) → answers m k row (length work) (length t) s x ≡ Ok (Kept n f)
-        → (r : List K) × Least number (Serves m (text h t) (last k (since (taken h) ++ x ∷ []))) r
+        → (r : List K) × Least number (Continues m (text h t) (last k (since (taken h) ++ x ∷ []))) r
         × (n ≡ length r) × (f ≡ n - k) × (take (appended h + n) (writes m k row (length work) s x t) ≡ text h t ++ r)
     -- close returns the letters taken, the kept and the skipped windows, the text's letters and those filled in
     pub closed : close s ≡ tally m k h

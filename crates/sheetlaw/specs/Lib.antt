@@ -4,3 +4,4 @@ pub mod Calls
 pub mod Step
 pub mod Runs
 pub mod Law
+pub mod NextRow

@@ -1,9 +1,8 @@
 -- The row of letters that a sheet appends to its text for a window. Assumes nothing.
 --
---   Serves m t w r         after the row r, of at least one letter, the text t passes and ends with the window w
 --   Meet m k t u w         the passing text t ends with the window u of k letters, and w is a passing window of k letters
 --   Rows m number k row    row u w is the row that every text which ends with the window u is given for the window w: the
---                          shortest that serves, among equals the first in letter order, or None where none serves
+--                          shortest that continues the text so, among equals the first in letter order, or None where none does
 use mathlib.Core.Path.{_≡_}
 use mathlib.Core.List.{List, _++_}
 use Prim.Native.Nat.{ℕ, _≤_}
@@ -12,9 +11,7 @@ use Rattle.std.specs.declared.option.Option.{Option}
 use Rattle.std.specs.declared.option.Option.the-variants.{Some, None}
 use Rattle.models.specs.Automaton.{Model, Pass}
 use Rattle.models.specs.Strings.{Ends, Least}
-
-abbrev pub Serves : {K : Type 0} → Model K → List K → List K → List K → Type 0
-Serves m t w r = (1 ≤ length r) × Pass m (t ++ r) × Ends w (t ++ r)
+use Rattle.joinlaw.specs.Laws.{Continues}
 
 pub record Meet {K : Type 0} (m : Model K) (k : ℕ) (t u w : List K) : Type 0 where
   pub left : length u ≡ k
@@ -24,5 +21,5 @@ pub record Meet {K : Type 0} (m : Model K) (k : ℕ) (t u w : List K) : Type 0 w
   pub window : Pass m w
 
 pub record Rows {K : Type 0} (m : Model K) (number : K → ℕ) (k : ℕ) (row : List K → List K → Option (List K)) : Type 0 where
-  pub serves : (t u w : List K) → Meet m k t u w → (r : List K) → row u w ≡ Some r → Least number (Serves m t w) r
-  pub none : (t u w : List K) → Meet m k t u w → row u w ≡ None → (r : List K) → Serves m t w r → ⊥
+  pub serves : (t u w : List K) → Meet m k t u w → (r : List K) → row u w ≡ Some r → Least number (Continues m t w) r
+  pub none : (t u w : List K) → Meet m k t u w → row u w ≡ None → (r : List K) → Continues m t w r → ⊥

@@ -20,7 +20,7 @@ returns g c =
     let text = c .args .text .now in
     let j = c .in-Continue-joined .joined in
     let most : c .min-most .result ≡ min (length u) (length v) = omega (arith, c .min-most .ensures) in
-    let is : Ok j ≡ appended (join A m u v) v (length u) (length text) 0 = sym (c .in-Continue-joined .was tt) ∙ c .append .ensures .answer ∙ ap (λ n. appended (bridge A m (letters A) u v n) v (length u) (length text) 0) most in
+    let is : Ok j ≡ appended (join A m u v) v (length u) (length text) = sym (c .in-Continue-joined .was tt) ∙ c .append .ensures .answer ∙ ap (λ n. appended (bridge A m (letters A) u v n) v (length u) (length text)) most in
     let row-is : c .append .last .text ≡ appended-text (join A m u v) v (length u) text = c .append .ensures .text ∙ ap (λ n. appended-text (bridge A m (letters A) u v n) v (length u) text) most in
     record {
       answer = is ∙ sym (passed-rest m u v tt _ (sym (c .passing .ensures) ∙ c .in-Continue-passing .was tt));
