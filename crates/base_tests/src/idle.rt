@@ -1,5 +1,6 @@
 // An automaton of any count of states that stops nothing.
-ghost use Prim.Native.Nat.{_≤_};
+ghost use mathlib.Core.Path.{_≡_};
+ghost use Prim.Native.Nat.{_≤_, max, min};
 ghost use Rattle.base_tests.specs.Kinds.{idle-model, idle-lawful};
 use automata::Automaton;
 use letters::Letter;
@@ -15,7 +16,9 @@ pub struct Idle<L> {
 
 impl<L> Idle<L> {
     // With 1 to 4,096 states; a number outside that range is brought to its nearer end.
-    pub fn new(states: u16) -> Idle<L> {
+    pub fn new(states: u16) -> Idle<L>
+        ensures { λ r. ⌜ r .states ≡ min (max states 1) 4096 ⌝ }
+    {
         Idle { states: states.max(1).min(4096), kind: PhantomData }
     }
 }

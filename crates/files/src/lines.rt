@@ -92,7 +92,7 @@ impl<'a> Lines<'a> {
     fn take_line(&mut self) -> Option<&'a [u8]>
         ensures lines { λ r. ⌜ elim r [ None ↦ linesOf (now (now (self .entry) .rest)) ≡ [] | Some l ↦ linesOf (now (now (self .entry) .rest)) ≡ now l ∷ linesOf (now (now (self .exit) .rest)) ] ⌝ }
         ensures shorter { λ r. ⌜ elim r [ None ↦ length (now (now (self .entry) .rest)) ≡ 0 | Some l ↦ length (now (now (self .exit) .rest)) < length (now (now (self .entry) .rest)) ] ⌝ }
-        ensures number { λ r. ⌜ elim r [ None ↦ now (self .exit) .number ≡ now (self .entry) .number | Some l ↦ now (self .exit) .number ≡ now (self .entry) .number + 1 ] ⌝ }
+        ensures number { λ r. ⌜ elim r [ None ↦ (now (self .exit) .number ≡ now (self .entry) .number) × (now (now (self .exit) .rest) ≡ now (now (self .entry) .rest)) | Some l ↦ now (self .exit) .number ≡ now (self .entry) .number + 1 ] ⌝ }
     {
         let s = self.rest;
         if s.len() == 0 {
@@ -108,7 +108,7 @@ impl<'a> Lines<'a> {
     pub fn next_line(&mut self) -> Option<Result<Line<'a>, Fault>>
         ensures items { λ r. ⌜ elim r [ None ↦ items (now (now (self .entry) .rest)) ≡ [] | Some l ↦ items (now (now (self .entry) .rest)) ≡ meant l ∷ items (now (now (self .exit) .rest)) ] ⌝ }
         ensures shorter { λ r. ⌜ elim r [ None ↦ length (now (now (self .entry) .rest)) ≡ 0 | Some l ↦ length (now (now (self .exit) .rest)) < length (now (now (self .entry) .rest)) ] ⌝ }
-        ensures number { λ r. ⌜ elim r [ None ↦ now (self .exit) .number ≡ now (self .entry) .number | Some l ↦ now (self .exit) .number ≡ now (self .entry) .number + 1 ] ⌝ }
+        ensures number { λ r. ⌜ elim r [ None ↦ (now (self .exit) .number ≡ now (self .entry) .number) × (now (now (self .exit) .rest) ≡ now (now (self .entry) .rest)) | Some l ↦ now (self .exit) .number ≡ now (self .entry) .number + 1 ] ⌝ }
     {
         match self.take_line() {
             Some(line) => Some(classify(line)),

@@ -24,7 +24,7 @@ fn same<K: Letter>(a: &[K], b: &[K]) -> bool
 
 // The largest overlap of at most `most` letters after which the rest of `right` can be walked on from `state`, the
 // state after `left`.
-pub fn overlap<S: Automaton>(
+pub(crate) fn overlap<S: Automaton>(
     automaton: &S,
     state: u16,
     left: &[S::Kind],

@@ -53,7 +53,7 @@ fn expand<S: Automaton>(
 }
 
 // The place in the queue of the first state from which `right` can be walked.
-pub fn explore<S: Automaton>(
+pub(crate) fn explore<S: Automaton>(
     automaton: &S,
     start: u16,
     right: &[S::Kind],

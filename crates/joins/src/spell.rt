@@ -7,7 +7,7 @@ ghost use Rattle.joins.specs.Spelling.{numbers, spelling, Traced};
 use letters::Letter;
 
 // How many letters lead from the first place to `place`.
-pub fn depth(parents: &[u16], place: u16) -> usize
+pub(crate) fn depth(parents: &[u16], place: u16) -> usize
     requires within { ⌜ place < length (now parents) ⌝ }
     requires earlier { ⌜ ((i : ℕ) → 0 < i → i ≤ place → getD (now parents) i 0 < i) ⌝ }
     ensures { λ r. ⌜ ((l : ℕ → ℕ) → r ≡ length (numbers (by (now (parents .entry))) l place)) ⌝ }
@@ -22,7 +22,7 @@ pub fn depth(parents: &[u16], place: u16) -> usize
 }
 
 // Writes the letters that lead to `place`, from the last to the first; `out` has room for just these.
-pub fn spell<K: Letter>(parents: &[u16], letters: &[u16], place: u16, out: &mut [K])
+pub(crate) fn spell<K: Letter>(parents: &[u16], letters: &[u16], place: u16, out: &mut [K])
     requires within { ⌜ place < length (now parents) ⌝ ∗ ⌜ place < length (now letters) ⌝ }
     requires traced { ⌜ Traced (alphabet .letter) (by (now parents)) (by (now letters)) place ⌝ }
     requires room { ⌜ length (now out) ≡ length (numbers (by (now parents)) (by (now letters)) place) ⌝ }
