@@ -2,7 +2,7 @@
 ghost use Prim.Native.Nat.{_<_, _≤_};
 ghost use lib.ListN.{length};
 ghost use denote.Ref.{now as at};
-ghost use Rattle.listlaw.proofs.Gathering.{Places};
+ghost use Rattle.listlaw.specs.Patterns.{Places};
 ghost use Rattle.lists.specs.Names.{names, Below, Lengths, Under};
 ghost use Rattle.lists.specs.Lists.{columns, Held};
 use crate::record::Record;

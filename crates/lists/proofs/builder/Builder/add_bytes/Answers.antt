@@ -1,7 +1,7 @@
-use mathlib.Core.Path.{_≡_, refl, sym, ap, _∙_}
+use mathlib.Core.Path.{sym, ap, _∙_}
 use Rattle.std.specs.declared.option.Option.{Option}
 use Prim.Native.Nat.{ℕ}
-use Rattle.lists.specs.Reading.{reading, strange, spelling, strange-cause}
+use Rattle.lists.specs.Reading.{reading, spelling, strange-cause}
 use Rattle.lists.specs.Taking.{cause}
 use Rattle.lists.proofs.Spelt.{spelling-length}
 use Rattle.lists.proofs.builder.Builder.add_bytes.Needs as need
