@@ -1,19 +1,15 @@
 -- Words that are gathered one after another, each once. Assumes nothing.
 use mathlib.Core.Path.{_≡_, refl, sym, ap, subst, _∙_}
-use mathlib.Core.Bool.{Bool, true, false, cond, _&&_, _||_}
+use mathlib.Core.Bool.{true, false}
 use mathlib.Core.Logic.{_⊎_, inl, inr, ⊎-elim}
-use mathlib.Core.List.{List, [], _∷_, _++_, map}
-use Prim.Native.Nat.{ℕ, zero, suc, _+_, _-_, _≤_, _<_}
+use mathlib.Core.List.{List, [], _∷_, _++_}
+use Prim.Native.Nat.{ℕ, _+_, _-_, _≤_, _<_}
 use native.Mathlib.Omega.{arith}
 use lib.ListN.{length, getD}
 use Rattle.std.proofs.shelf.Lists.{length-push, getD-append-left, getD-push}
 use Rattle.std.proofs.shelf.Tests.{or-cases, or-left, or-right, cases-bool, both-ways, cond-true, cond-false, cases-lt}
-use Rattle.listlaw.specs.Patterns.{Word, same, member, place, gather}
+use Rattle.listlaw.specs.Patterns.{Word, same, member, place, gather, with, Places}
 use Rattle.listlaw.proofs.Members.{member-left, member-push, member-cases, member-one, member-at, place-left, place-new, same-eq, same-refl}
-
--- one word more, if it is new
-abbrev pub with : List Word → Word → List Word
-with ws v = cond (member ws v) ws (ws ++ (v ∷ []))
 
 pub with-old : (ws : List Word) (v : Word) → member ws v ≡ true → with ws v ≡ ws
 with-old ws v h = cond-true (member ws v) ws (ws ++ (v ∷ [])) h
@@ -64,13 +60,6 @@ gather-cases (v ∷ vs) ws w h = ⊎-elim
     own : v ≡ w → same v w ≡ true
     own e = subst (λ (u : Word). same v u ≡ true) e (same-refl v)
 
--- nothing new leaves them as they are
-pub gather-kept : (vs ws : List Word) → ((v : Word) → member vs v ≡ true → member ws v ≡ true) → gather ws vs ≡ ws
-gather-kept [] ws h = refl
-gather-kept (v ∷ vs) ws h =
-    let e = with-old ws v (h v (or-left (same v v) (member vs v) (same-refl v))) in
-    ap (λ (l : List Word). gather l vs) e ∙ gather-kept vs ws (λ u k. h u (or-right (same v u) (member vs u) k))
-
 pub with-length : (ws : List Word) (v : Word) → length ws ≤ length (with ws v)
 with-length ws v = ⊎-elim
     (λ e. omega (arith, ap length (with-old ws v e)))
@@ -80,10 +69,6 @@ with-length ws v = ⊎-elim
 pub gather-length : (vs ws : List Word) → length ws ≤ length (gather ws vs)
 gather-length [] ws = omega arith
 gather-length (v ∷ vs) ws = omega (arith, with-length ws v, gather-length vs (with ws v))
-
--- each word stands at one place
-abbrev pub Places : List Word → Type 0
-Places ws = (i : ℕ) → i < length ws → place ws (getD ws i []) ≡ i
 
 pub places-push : (ws : List Word) (v : Word) → Places ws → member ws v ≡ false → Places (ws ++ (v ∷ []))
 places-push ws v p new i h = ⊎-elim

@@ -1,25 +1,22 @@
 -- The table of a list of patterns is a lawful automaton, and stops a string exactly when a pattern occurs in it. Assumes nothing.
 use mathlib.Core.Path.{_≡_, refl, sym, ap, subst, _∙_}
-use mathlib.Core.Bool.{Bool, true, false, cond, Bool-set}
-use mathlib.Core.Logic.{_⊎_, inl, inr, ⊎-elim, ∥∥₁-elim}
+use mathlib.Core.Bool.{Bool, true, Bool-set}
+use mathlib.Core.Logic.{∥∥₁-elim}
 use mathlib.Core.List.{List, [], _∷_, _++_, map}
-use Prim.Native.Nat.{ℕ, zero, suc, _+_, _-_, _≤_, _<_}
+use Prim.Native.Nat.{ℕ, _+_, _-_, _≤_, _<_}
 use native.Mathlib.Nat.{ℕ-set}
 use native.Mathlib.Bridge.{le-prop}
 use native.Mathlib.Omega.{arith}
-use lib.ListN.{length, getD}
 use Rattle.std.specs.Options.{isSome}
-use Rattle.std.specs.shelf.Lists.{Has}
 use Rattle.std.specs.declared.option.Option.{Option}
 use Rattle.std.specs.declared.option.Option.the-variants.{Some, None}
-use Rattle.std.proofs.shelf.Lists.{length-map}
 use Rattle.std.proofs.shelf.Tests.{le-ltb}
 use Rattle.models.specs.Alphabet.{Alphabet, Numbered}
-use Rattle.models.specs.Automaton.{Next, walk, Passes, Parts, Forgets, Pass, Lawful, last}
+use Rattle.models.specs.Automaton.{walk, Parts, Forgets, Lawful}
 use Rattle.models.specs.Strings.{Occurs}
 use Rattle.models.proofs.ByNumber.{walk-by, parts-by, forgets-by}
-use Rattle.listlaw.specs.Patterns.{Word, coded, member, states, hit, longest, memory}
-use Rattle.listlaw.specs.Table.{table-next, table-model, Right, Kept, Means, after}
+use Rattle.listlaw.specs.Patterns.{Word, coded, memory}
+use Rattle.listlaw.specs.Table.{table-next, table-model, Right, Kept, Means}
 use Rattle.listlaw.proofs.States.{states-first, states-some}
 use Rattle.listlaw.proofs.Strings.{occurs-map, occurs-unmap, coded-has, coded-from}
 use Rattle.listlaw.proofs.Passing as passing

@@ -1,15 +1,14 @@
 -- Words that are equal, members and places. Assumes nothing.
-use mathlib.Core.Path.{_≡_, refl, sym, ap, subst, _∙_}
-use mathlib.Core.Bool.{Bool, true, false, cond, _&&_, _||_}
-use mathlib.Core.Logic.{_⊎_, inl, inr, ⊎-elim}
-use mathlib.Core.List.{List, [], _∷_, _++_, map}
-use Prim.Native.Nat.{ℕ, zero, suc, _+_, _-_, _≤_, _<_}
+use mathlib.Core.Path.{_≡_, refl, sym, ap, _∙_}
+use mathlib.Core.Bool.{Bool, true, false, cond, _||_}
+use mathlib.Core.Logic.{_⊎_, ⊎-elim}
+use mathlib.Core.List.{List, [], _∷_, _++_}
+use Prim.Native.Nat.{ℕ, zero, suc, _+_, _-_, _<_}
 use native.Mathlib.Omega.{arith}
 use lib.Dec.{eqb}
 use lib.ListN.{length, getD}
 use Rattle.std.specs.shelf.Lists.{Has}
-use Rattle.std.proofs.shelf.Lists.{length-push}
-use Rattle.std.proofs.shelf.Tests.{eqb-true, eq-eqb, and-parts, or-cases, or-left, or-right, or-from, or-parts, cases-bool, both-ways}
+use Rattle.std.proofs.shelf.Tests.{eqb-true, eq-eqb, and-parts, or-cases, or-left, or-right, or-parts, cases-bool, both-ways}
 use Rattle.listlaw.specs.Patterns.{Word, same, member, place}
 
 pub same-refl : (s : Word) → same s s ≡ true

@@ -1,17 +1,16 @@
 -- Which words pass the table of a list of patterns. Assumes nothing.
 use mathlib.Core.Path.{_≡_, refl, sym, ap, subst, _∙_}
 use mathlib.Core.Bool.{Bool, true, false, cond}
-use mathlib.Core.Logic.{_⊎_, inl, inr, ⊎-elim}
+use mathlib.Core.Logic.{_⊎_, ⊎-elim}
 use mathlib.Core.List.{List, [], _∷_, _++_, append-nil, append-assoc}
-use Prim.Native.Nat.{ℕ, zero, suc, _+_, _-_, _≤_, _<_}
+use Prim.Native.Nat.{ℕ, _+_, _-_, _≤_, _<_}
 use native.Mathlib.Omega.{arith}
-use lib.Dec.{ltb}
-use lib.ListN.{length, getD}
+use lib.ListN.{getD}
 use Rattle.std.specs.Options.{isSome}
 use Rattle.std.specs.declared.option.Option.{Option}
 use Rattle.std.specs.declared.option.Option.the-variants.{Some, None}
 use Rattle.std.proofs.shelf.Tests.{lt-ltb, le-ltb, cases-bool, cases-lt, both-ways}
-use Rattle.models.specs.Automaton.{Next, walk, bind, Passes, Parts, Forgets, last}
+use Rattle.models.specs.Automaton.{walk, bind, Passes, Parts, Forgets}
 use Rattle.models.specs.Strings.{Occurs}
 use Rattle.listlaw.specs.Patterns.{Word, member, place, states, hit, longest, memory}
 use Rattle.listlaw.specs.Table.{table-next, Right, after}

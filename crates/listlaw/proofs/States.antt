@@ -1,18 +1,18 @@
 -- The states of a list of patterns: its proper prefixes. Assumes nothing.
 use mathlib.Core.Path.{_≡_, refl, sym, ap, subst, _∙_}
-use mathlib.Core.Bool.{Bool, true, false, cond, _&&_, _||_}
+use mathlib.Core.Bool.{true, false}
 use mathlib.Core.Logic.{_⊎_, inl, inr, ⊎-elim}
-use mathlib.Core.List.{List, [], _∷_, _++_, map, append-nil, append-assoc}
+use mathlib.Core.List.{List, [], _∷_, _++_, map, append-assoc}
 use Prim.Native.Nat.{ℕ, zero, suc, _+_, _-_, _≤_, _<_, max}
 use native.Mathlib.Omega.{arith}
 use native.Mathlib.Nat.{add-zero}
 use lib.ListN.{length, getD, take, length-append}
 use Rattle.std.specs.shelf.Lists.{joined}
 use Rattle.std.proofs.shelf.Lists.{map-append, joined-more, take-more, length-take-le, length-push, take-all}
-use Rattle.std.proofs.shelf.Tests.{or-cases, or-left, or-right, cases-bool, both-ways}
-use Rattle.listlaw.specs.Patterns.{Word, same, member, place, gather, fronts, states, extent, memory}
+use Rattle.std.proofs.shelf.Tests.{or-cases, or-left, or-right, both-ways}
+use Rattle.listlaw.specs.Patterns.{Word, same, member, gather, fronts, states, extent, memory, with, Places}
 use Rattle.listlaw.proofs.Members.{same-refl, same-eq, never, member-left, member-right, member-cases}
-use Rattle.listlaw.proofs.Gathering.{with, with-new, gather-append, gather-left, gather-right, gather-cases, gather-kept, gather-at, gather-length, with-length, Places, places-gather}
+use Rattle.listlaw.proofs.Gathering.{with-new, gather-append, gather-left, gather-right, gather-cases, gather-at, gather-length, with-length, places-gather}
 
 -- words under one first letter
 under-in : (x : ℕ) (vs : List Word) (v : Word) → member vs v ≡ true → member (map (λ w. x ∷ w) vs) (x ∷ v) ≡ true

@@ -1,7 +1,7 @@
 -- Strings of letters and the words of their numbers. Assumes nothing.
 use mathlib.Core.Path.{_≡_, refl, sym, ap, subst, _∙_}
-use mathlib.Core.Bool.{Bool, true, false, _||_}
-use mathlib.Core.Logic.{_⊎_, inl, inr, ⊎-elim}
+use mathlib.Core.Bool.{true, false}
+use mathlib.Core.Logic.{_⊎_, ⊎-elim}
 use mathlib.Core.List.{List, [], _∷_, _++_, map}
 use Prim.Native.Nat.{ℕ, zero, suc, _+_, _≤_, _<_}
 use native.Mathlib.Omega.{arith}
@@ -9,7 +9,7 @@ use lib.ListN.{length, getD, take, drop, take-append-drop}
 use Rattle.std.specs.shelf.Lists.{Has}
 use Rattle.std.proofs.shelf.Lists.{map-append, take-map, drop-map, take-at, drop-at}
 use Rattle.std.proofs.shelf.Tests.{or-cases, or-left, or-right, both-ways}
-use Rattle.models.specs.Alphabet.{Alphabet, Numbered}
+use Rattle.models.specs.Alphabet.{Alphabet}
 use Rattle.models.specs.Strings.{Occurs}
 use Rattle.listlaw.specs.Patterns.{Word, coded, same, member}
 use Rattle.listlaw.proofs.Members.{same-refl, same-eq}

@@ -1,13 +1,13 @@
 -- The longest suffix that is a state, and patterns that are suffixes. Assumes nothing.
-use mathlib.Core.Path.{_≡_, refl, sym, ap, subst, _∙_}
-use mathlib.Core.Bool.{Bool, true, false, cond, _&&_, _||_}
-use mathlib.Core.Logic.{_⊎_, inl, inr, ⊎-elim}
-use mathlib.Core.List.{List, [], _∷_, _++_, map, append-nil, append-assoc}
-use Prim.Native.Nat.{ℕ, zero, suc, _+_, _-_, _≤_, _<_}
+use mathlib.Core.Path.{_≡_, refl, sym, ap, _∙_}
+use mathlib.Core.Bool.{Bool, true, false, _||_}
+use mathlib.Core.Logic.{_⊎_, ⊎-elim}
+use mathlib.Core.List.{List, [], _∷_, _++_}
+use Prim.Native.Nat.{ℕ, suc, _+_, _-_, _≤_, _<_}
 use native.Mathlib.Omega.{arith}
 use lib.ListN.{length, getD, drop}
 use Rattle.std.proofs.shelf.Lists.{drop-all}
-use Rattle.std.proofs.shelf.Tests.{or-cases, or-left, or-right, or-from, cases-bool, both-ways, cond-true, cond-false, cases-lt}
+use Rattle.std.proofs.shelf.Tests.{or-cases, or-left, or-right, cases-bool, both-ways, cond-true, cond-false, cases-lt}
 use Rattle.models.specs.Automaton.{last}
 use Rattle.listlaw.specs.Patterns.{Word, member, place, hit, longest}
 use Rattle.listlaw.proofs.Members.{never, place-below, place-at}

@@ -1,19 +1,17 @@
 -- When a pattern is refused, and what is held once it is taken. Assumes nothing.
-use mathlib.Core.Path.{_≡_, refl, sym, ap, subst, _∙_}
-use mathlib.Core.Bool.{Bool, true, false, cond, _||_}
+use mathlib.Core.Path.{_≡_, sym, ap, subst, _∙_}
+use mathlib.Core.Bool.{true, false, cond, _||_}
 use mathlib.Core.List.{List, [], _∷_, _++_, map}
-use Prim.Native.Nat.{ℕ, _+_, _-_, _*_, _/_, _≤_, _<_, min}
+use Prim.Native.Nat.{ℕ, _+_, _-_, _*_, _≤_, _<_}
 use native.Mathlib.Omega.{arith}
 use lib.Dec.{eqb, ltb, leb}
-use lib.ListN.{length, getD, take}
-use Rattle.std.specs.declared.option.Option.{Option}
+use lib.ListN.{length}
 use Rattle.std.specs.declared.option.Option.the-variants.{Some, None}
 use Rattle.std.proofs.shelf.Bits.{le-div}
 use Rattle.std.proofs.shelf.Lists.{map-push, length-map}
 use Rattle.std.proofs.shelf.Tests.{le-ltb, ne-eqb, cond-true, cond-false, or-from}
 use Rattle.models.specs.Alphabet.{Alphabet, Numbered}
-use Rattle.faults.specs.declared.Fault.{Fault}
-use Rattle.faults.specs.Causes.{bad-length, full-list, short-tables}
+use Rattle.faults.specs.Causes.{full-list}
 use Rattle.listlaw.specs.Patterns.{Word, coded, gather, fronts, states}
 use Rattle.listlaw.proofs.States.{states-push}
 use Rattle.lists.specs.declared.record.Record.{Record}

@@ -3,22 +3,19 @@ use mathlib.Core.Path.{_≡_, refl, sym, ap, subst, _∙_}
 use mathlib.Core.Bool.{true, false}
 use mathlib.Core.Logic.{_⊎_, inl, inr, _≢_, ⊎-elim}
 use mathlib.Core.List.{List, [], _∷_, _++_}
-use Prim.Native.Nat.{ℕ, zero, suc, _+_, _-_, _≤_, _<_}
+use Prim.Native.Nat.{ℕ, _+_, _-_, _≤_, _<_}
 use native.Mathlib.Omega.{arith}
 use lib.ListN.{length, getD, set, take}
 use Rattle.std.proofs.shelf.Lists.{take-more, getD-append-left, getD-push, getD-set-same, getD-set-other, length-push, length-take-le}
-use Rattle.std.proofs.shelf.Tests.{cases-lt, cases-bool}
-use Rattle.listlaw.specs.Patterns.{Word, member, place, gather, fronts}
-use Rattle.listlaw.proofs.Gathering.{Places, places-push, with, with-old, with-new}
-use Rattle.listlaw.proofs.States.{gather-more, gather-missing, gather-fewer}
+use Rattle.std.proofs.shelf.Tests.{cases-lt}
+use Rattle.listlaw.specs.Patterns.{Word, member, gather, fronts, Places, with}
+use Rattle.listlaw.proofs.Gathering.{places-push, with-old, with-new}
+use Rattle.listlaw.proofs.States.{gather-more, gather-fewer}
 use Rattle.lists.specs.declared.record.Record.{Record}
 use Rattle.lists.specs.Names.{blank, rec, names, Below, Lengths, Trie, Under, Fresh, Reached, Entered}
-use Rattle.lists.proofs.Spelling.{length-names, names-push, names-first, names-closed, place-of, child-state, child-none}
+use Rattle.lists.proofs.Spelling.{length-names, names-push, names-first, place-of, child-state, child-none}
 
 module _ (ns : List Record) (used : ℕ) (fits : used ≤ length ns) (trie : Trie ns used) (under a : ℕ) where
-  word : Word
-  word = getD (names ns used) under [] ++ (a ∷ [])
-
   pub reach-old : (j : ℕ) → (0 < j) × (j < used) × (rec ns j .parent ≡ under) × (rec ns j .letter ≡ a) → Reached ns ns used under a j used
   reach-old j h =
       let is = child-state ns used fits trie under a j h in

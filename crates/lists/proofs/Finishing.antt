@@ -1,27 +1,27 @@
 -- The tables of a finished list are those of its patterns. Assumes nothing.
 use mathlib.Core.Path.{_≡_, refl, sym, ap, subst, _∙_}
 use mathlib.Core.Bool.{Bool, true, false, cond, _||_}
-use mathlib.Core.Logic.{_⊎_, inl, inr, ⊎-elim, ∥∥₁-elim, ∥∥₁-map}
+use mathlib.Core.Logic.{inl, ∥∥₁-elim}
 use mathlib.Core.List.{List, [], _∷_, _++_, map}
-use Prim.Native.Nat.{ℕ, zero, suc, _+_, _-_, _*_, _/_, _≤_, _<_, min, max}
+use Prim.Native.Nat.{ℕ, _+_, _-_, _*_, _≤_, _<_}
 use native.Mathlib.Bridge.{le-prop}
 use native.Mathlib.Omega.{arith}
-use lib.Dec.{eqb, ltb}
+use lib.Dec.{eqb}
 use lib.ListN.{length, getD}
 use Rattle.std.proofs.shelf.Bits.{le-div}
 use Rattle.std.proofs.shelf.Lists.{nil-from-length, length-map}
 use Rattle.std.proofs.shelf.Tests.{lt-ltb, le-ltb, ne-eqb, both-ways}
 use Rattle.models.specs.Alphabet.{Alphabet, Numbered}
-use Rattle.listlaw.specs.Patterns.{Word, coded, member, states, extent, memory, hit, longest}
-use Rattle.listlaw.specs.Table.{Right, Kept, Means}
+use Rattle.listlaw.specs.Patterns.{Word, coded, member, states, extent, hit, longest}
+use Rattle.listlaw.specs.Table.{Right, Means}
 use Rattle.listlaw.proofs.Members.{same-refl, member-at}
-use Rattle.listlaw.proofs.States.{state-root, states-short, extent-above}
+use Rattle.listlaw.proofs.States.{states-short, extent-above}
 use Rattle.listlaw.proofs.Suffixes.{longest-below}
 use Rattle.listlaw.proofs.Laws.{table-means}
 use Rattle.lists.specs.declared.record.Record.{Record}
 use Rattle.lists.specs.Names.{rec, names, Trie}
 use Rattle.lists.specs.Lists.{bit, columns, Lists, Held}
-use Rattle.lists.specs.Taking.{Roomy, Holding}
+use Rattle.lists.specs.Taking.{Holding}
 use Rattle.lists.specs.Links.{Before, Shape, Endings}
 use Rattle.lists.specs.Finished.{stop-at, goes-to, listed-model}
 use Rattle.lists.proofs.Spelling.{length-names}

@@ -3,16 +3,16 @@ use mathlib.Core.Path.{_≡_, refl, sym, ap, subst, _∙_}
 use mathlib.Core.Bool.{Bool, true, false, _||_}
 use mathlib.Core.Logic.{_⊎_, inl, inr, ⊎-elim}
 use mathlib.Core.List.{List, [], _∷_, _++_}
-use Prim.Native.Nat.{ℕ, zero, suc, _+_, _-_, _*_, _≤_, _<_}
+use Prim.Native.Nat.{ℕ, _+_, _-_, _*_, _≤_, _<_}
 use native.Mathlib.Omega.{arith}
 use lib.ListN.{length, getD}
 use Rattle.std.proofs.shelf.Lists.{nil-from-length}
-use Rattle.std.proofs.shelf.Tests.{cases-lt, cases-bool}
-use Rattle.listlaw.specs.Patterns.{Word, member, place, states, hit, longest}
+use Rattle.std.proofs.shelf.Tests.{cases-lt}
+use Rattle.listlaw.specs.Patterns.{Word, member, states, hit, longest}
 use Rattle.listlaw.proofs.Members.{never}
 use Rattle.lists.specs.declared.record.Record.{Record}
-use Rattle.lists.specs.Names.{rec, names, Trie, Under}
-use Rattle.lists.specs.Lists.{bit, columns, Marks}
+use Rattle.lists.specs.Names.{names, Trie, Under}
+use Rattle.lists.specs.Lists.{columns, Marks}
 use Rattle.lists.specs.Links.{Before, Shape, Endings, Planted}
 use Rattle.lists.proofs.Spelling.{names-first, place-of}
 use Rattle.lists.proofs.Settling.{root-row}

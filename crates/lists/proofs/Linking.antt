@@ -1,22 +1,19 @@
 -- Failure links and what they bring. Assumes nothing.
-use mathlib.Core.Path.{_≡_, refl, sym, ap, subst, _∙_}
-use mathlib.Core.Bool.{Bool, true, false, cond, _||_}
-use mathlib.Core.Logic.{_⊎_, inl, inr, _≢_, ⊎-elim}
-use mathlib.Core.List.{List, [], _∷_, _++_, append-assoc}
-use Prim.Native.Nat.{ℕ, zero, suc, _+_, _-_, _*_, _≤_, _<_}
+use mathlib.Core.Path.{_≡_, refl, sym, ap, _∙_}
+use mathlib.Core.Bool.{true}
+use mathlib.Core.Logic.{_⊎_, inl, ⊎-elim}
+use mathlib.Core.List.{List, [], _∷_, _++_}
+use Prim.Native.Nat.{ℕ, _+_, _-_, _*_, _≤_, _<_}
 use native.Mathlib.Omega.{arith}
-use native.Mathlib.Decide.{ℕ-discrete}
-use lib.ListN.{length, getD, set, drop, length-set, length-drop}
-use Rattle.std.proofs.shelf.Lists.{getD-set-same, getD-set-other, length-push}
-use Rattle.std.proofs.shelf.Tests.{cases-lt, cases-bool, cond-true, cond-false, both-ways}
-use Rattle.listlaw.specs.Patterns.{Word, member, place, states, hit, longest}
-use Rattle.listlaw.proofs.States.{Closed}
-use Rattle.listlaw.proofs.Suffixes.{longest-member, longest-name, longest-skip, longest-below, longest-step, longest-short}
+use lib.ListN.{length, getD, drop, length-drop}
+use Rattle.std.proofs.shelf.Lists.{length-push}
+use Rattle.std.proofs.shelf.Tests.{cases-lt}
+use Rattle.listlaw.specs.Patterns.{Word, member, longest}
+use Rattle.listlaw.proofs.Suffixes.{longest-below, longest-step, longest-short}
 use Rattle.lists.specs.declared.record.Record.{Record}
-use Rattle.lists.specs.Names.{blank, rec, names, Trie, Under}
-use Rattle.lists.specs.Lists.{bit, columns}
-use Rattle.lists.specs.Links.{tied, Before, Shape, Endings, Others, Planted}
-use Rattle.lists.proofs.Spelling.{names-first, names-step, length-names, names-closed, place-of, state-of, child-state, child-none}
+use Rattle.lists.specs.Names.{rec, names, Trie}
+use Rattle.lists.specs.Links.{Shape}
+use Rattle.lists.proofs.Spelling.{names-first, names-step, length-names, names-closed, place-of}
 
 module _ (ns : List Record) (used : ℕ) (fits : used ≤ length ns) (trie : Trie ns used) where
   pub root : member (names ns used) [] ≡ true
@@ -37,9 +34,6 @@ module _ (ns : List Record) (words : List ℕ) (used q : ℕ) (pos : 0 < q) (lt 
   fits : used ≤ length ns
   fits = omega (arith, shape .room, shape .trie .1)
 
-  p : ℕ
-  p = rec ns q .parent
-
   spelt : getD (names ns used) q [] ≡ getD (names ns used) (rec ns q .parent) [] ++ (rec ns q .letter ∷ [])
   spelt = names-step ns used q fits pos lt (shape .trie .2 q pos lt)
 
@@ -56,9 +50,6 @@ module _ (ns : List Record) (words : List ℕ) (used q : ℕ) (pos : 0 < q) (lt 
       sym (ap (λ (w : Word). longest (names ns used) (drop 1 w)) (spelt ∙ ap (λ (w : Word). w ++ (rec ns q .letter ∷ [])) e) ∙ root-place ns used fits (shape .trie))
 
   module _ (other : rec ns q .parent ≡ 0 → ⊥) where
-    t : Word
-    t = drop 1 (getD (names ns used) (rec ns q .parent) [])
-
     parent-pos : 0 < rec ns q .parent
     parent-pos = ⊎-elim (λ h. h) (λ h. absurd (other (omega arith))) (cases-lt 0 (rec ns q .parent))
 

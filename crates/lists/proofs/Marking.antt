@@ -1,23 +1,22 @@
 -- A pattern more: its prefixes are entered, and its end is marked. Assumes nothing.
 use mathlib.Core.Path.{_≡_, refl, sym, ap, subst, _∙_}
 use mathlib.Core.Bool.{Bool, true, false, _||_}
-use mathlib.Core.Logic.{_⊎_, inl, inr, _≢_, ⊎-elim}
+use mathlib.Core.Logic.{_⊎_, ⊎-elim}
 use mathlib.Core.List.{List, [], _∷_, _++_}
 use Prim.Native.Nat.{ℕ, zero, suc, _+_, _-_, _^_, _≤_, _<_, max}
 use native.Mathlib.Omega.{arith}
 use native.Mathlib.Decide.{ℕ-discrete}
-use lib.Bits.{bitOr}
 use lib.Dec.{eqb}
 use lib.ListN.{length, getD, set, take, length-set}
 use Rattle.std.proofs.shelf.Lists.{take-more, take-all, getD-set-same, getD-set-other, length-push, same-from-push}
-use Rattle.std.proofs.shelf.Tests.{cases-lt, cases-bool, eqb-true, eq-eqb, ne-eqb, or-cases}
-use Rattle.listlaw.specs.Patterns.{Word, same, member, place, gather, fronts, states, extent}
-use Rattle.listlaw.proofs.Members.{never, not-same, same-refl, same-eq, member-append, member-cases, member-one, member-at}
-use Rattle.listlaw.proofs.Gathering.{Places, gather-at}
+use Rattle.std.proofs.shelf.Tests.{cases-lt, cases-bool, eq-eqb, ne-eqb}
+use Rattle.listlaw.specs.Patterns.{Word, same, member, place, gather, fronts, states, extent, Places}
+use Rattle.listlaw.proofs.Members.{never, not-same, same-refl, same-eq, member-append, member-cases, member-one}
+use Rattle.listlaw.proofs.Gathering.{gather-at}
 use Rattle.listlaw.proofs.States.{states-push, states-fronted, extent-push}
 use Rattle.lists.specs.declared.record.Record.{Record}
-use Rattle.lists.specs.Names.{blank, rec, with-end, grow, names, Below, Lengths, Trie, Under, Fresh, Entered}
-use Rattle.lists.specs.Lists.{bit, Marks, Lists}
+use Rattle.lists.specs.Names.{blank, rec, with-end, grow, names, Trie, Under, Entered}
+use Rattle.lists.specs.Lists.{bit, Lists}
 use Rattle.lists.proofs.Spelling.{length-names, place-of, state-of}
 use Rattle.lists.proofs.Bitwise.{bit-zero, bit-or, bit-pow}
 
@@ -59,9 +58,6 @@ module _ (ns : List Record) (used q : ℕ) (n : Record) (room : q < length ns) (
 
 module _ (old ns : List Record) (used : ℕ) (w : Word) (at more : ℕ) (some : 1 ≤ length w) (fits : used ≤ length old) (trie : Trie old used) (in′ : more ≤ length ns)
     (e : Entered old ns used w (length w - 1) at more) where
-  last : ℕ
-  last = getD w (length w - 1) 0
-
   whole : take (length w - 1 + 1) w ≡ w
   whole = take-all (length w - 1 + 1) w (omega arith)
 
@@ -114,9 +110,6 @@ module _ (old ns : List Record) (used : ℕ) (w : Word) (at more : ℕ) (some : 
     after : 512 ≤ length old → (q a : ℕ) → q < more → a < 32 → bit (rec (set ns at marked) q .ends) a ≡ member (ps ++ (w ∷ [])) (getD (names ns more) q [] ++ (a ∷ []))
     after far q a h l = go (ℕ-discrete q at)
       where
-        v : Word
-        v = getD (names ns more) q []
-
         split : member (ps ++ (w ∷ [])) (getD (names ns more) q [] ++ (a ∷ [])) ≡ (bit (rec ns q .ends) a || same w (getD (names ns more) q [] ++ (a ∷ [])))
         split =
             member-append ps (w ∷ []) (getD (names ns more) q [] ++ (a ∷ []))

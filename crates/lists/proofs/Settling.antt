@@ -1,15 +1,15 @@
 -- One state more is settled: its failure link, its end marks and its words. Assumes nothing.
 use mathlib.Core.Path.{_≡_, refl, sym, ap, subst, _∙_}
-use mathlib.Core.Bool.{Bool, true, false, cond, _||_}
-use mathlib.Core.Logic.{_⊎_, inl, inr, _≢_, ⊎-elim}
+use mathlib.Core.Bool.{Bool, true, false, _||_}
+use mathlib.Core.Logic.{_⊎_, inl, inr, ⊎-elim}
 use mathlib.Core.List.{List, [], _∷_, _++_}
-use Prim.Native.Nat.{ℕ, zero, suc, _+_, _-_, _*_, _/_, _≤_, _<_, min}
+use Prim.Native.Nat.{ℕ, _+_, _-_, _*_, _/_, _≤_, _<_, min}
 use native.Mathlib.Omega.{arith}
 use native.Mathlib.Decide.{ℕ-discrete}
 use lib.ListN.{length, getD, set, drop, length-set, length-drop}
 use Rattle.std.proofs.shelf.Lists.{getD-set-same, getD-set-other, length-push}
 use Rattle.std.proofs.shelf.Tests.{cases-lt}
-use Rattle.listlaw.specs.Patterns.{Word, member, place, states, hit, longest}
+use Rattle.listlaw.specs.Patterns.{Word, member, hit, longest}
 use Rattle.listlaw.proofs.States.{states-fronted}
 use Rattle.listlaw.proofs.Suffixes.{longest-member, longest-skip, longest-step, longest-short, hit-step}
 use Rattle.lists.specs.declared.record.Record.{Record}

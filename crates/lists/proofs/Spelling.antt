@@ -1,19 +1,17 @@
 -- What records spell, and what one more spells. Assumes nothing.
 use mathlib.Core.Path.{_≡_, refl, sym, ap, subst, _∙_}
 use mathlib.Core.Bool.{true, false}
-use mathlib.Core.Logic.{_⊎_, inl, inr, _≢_, ⊎-elim}
-use mathlib.Core.List.{List, [], _∷_, _++_, append-nil, append-assoc}
+use mathlib.Core.Logic.{_⊎_, inl, inr}
+use mathlib.Core.List.{List, [], _∷_, _++_}
 use Prim.Native.Nat.{ℕ, zero, suc, _+_, _-_, _≤_, _<_}
 use native.Mathlib.Omega.{arith}
-use lib.ListN.{length, getD, set, take, drop, length-append, length-take, length-set}
-use Rattle.std.proofs.shelf.Lists.{take-more, take-more-set, getD-append-left, getD-push, getD-set-same, getD-set-other, length-push, length-take-le, take-append-drop, take-take, same-from-push}
-use Rattle.std.proofs.shelf.Tests.{cases-lt}
+use lib.ListN.{length, getD, set, take, drop}
+use Rattle.std.proofs.shelf.Lists.{take-more, take-more-set, getD-append-left, getD-push, length-push, length-take-le, take-append-drop, take-take, same-from-push}
 use Rattle.listlaw.specs.Patterns.{Word, member, place}
 use Rattle.listlaw.proofs.Members.{never, member-at, place-below, place-at}
-use Rattle.listlaw.proofs.Gathering.{Places}
 use Rattle.listlaw.proofs.States.{Closed}
 use Rattle.lists.specs.declared.record.Record.{Record}
-use Rattle.lists.specs.Names.{blank, rec, grow, spelled, names, Below, Lengths, Trie}
+use Rattle.lists.specs.Names.{blank, rec, grow, spelled, names, Trie}
 
 grow-append : (xs : List Record) (acc : List Word) (ys : List Record) → grow acc (xs ++ ys) ≡ grow (grow acc xs) ys
 grow-append [] acc ys = refl

@@ -1,16 +1,15 @@
 -- An empty list. Assumes nothing.
-use mathlib.Core.Path.{_≡_, refl, sym, ap, _∙_}
-use mathlib.Core.Bool.{Bool, true, false}
-use mathlib.Core.List.{List, [], _∷_, _++_}
-use Prim.Native.Nat.{ℕ, zero, suc, _≤_, _<_}
+use mathlib.Core.Path.{_≡_, refl, ap, _∙_}
+use mathlib.Core.Bool.{false}
+use mathlib.Core.List.{List, [], _∷_}
+use Prim.Native.Nat.{ℕ, _≤_}
 use native.Mathlib.Omega.{arith}
-use lib.ListN.{length, getD}
+use lib.ListN.{length}
 use Rattle.std.proofs.shelf.Tests.{both-ways}
-use Rattle.listlaw.specs.Patterns.{Word}
-use Rattle.listlaw.proofs.Gathering.{Places}
+use Rattle.listlaw.specs.Patterns.{Places}
 use Rattle.listlaw.proofs.States.{states-places}
 use Rattle.lists.specs.declared.record.Record.{Record}
-use Rattle.lists.specs.Names.{blank, rec, names}
+use Rattle.lists.specs.Names.{rec, names}
 use Rattle.lists.specs.Lists.{bit, Lists}
 use Rattle.lists.proofs.Spelling.{names-one}
 use Rattle.lists.proofs.Bitwise.{bit-zero}

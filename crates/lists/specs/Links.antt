@@ -6,7 +6,7 @@
 --   Endings .. d i ps  and their end marks say where a pattern of ps is a suffix, those of the others where one ends
 --   Planted ..         what `plant` leaves of the words of one state
 use mathlib.Core.Path.{_≡_}
-use mathlib.Core.Bool.{Bool, true, cond}
+use mathlib.Core.Bool.{true}
 use mathlib.Core.Logic.{_⊎_}
 use mathlib.Core.List.{List, [], _∷_, _++_}
 use Prim.Native.Nat.{ℕ, _+_, _*_, _<_, _≤_}

@@ -10,11 +10,10 @@
 --   Entered ..      what the prefixes of a word leave
 use mathlib.Core.Path.{_≡_}
 use mathlib.Core.List.{List, [], _∷_, _++_}
-use Prim.Native.Nat.{ℕ, _+_, _*_, _<_, _≤_}
+use Prim.Native.Nat.{ℕ, _+_, _<_, _≤_}
 use lib.Bits.{bitOr}
-use lib.ListN.{length, getD, take, drop}
-use Rattle.listlaw.specs.Patterns.{Word, place, gather, fronts}
-use Rattle.listlaw.proofs.Gathering.{Places, with}
+use lib.ListN.{length, getD, take}
+use Rattle.listlaw.specs.Patterns.{Word, gather, fronts, Places, with}
 use Rattle.lists.specs.declared.record.Record.{Record}
 
 abbrev pub blank : Record

@@ -7,7 +7,7 @@
 use mathlib.Core.Path.{_≡_}
 use mathlib.Core.Bool.{Bool, cond, _||_}
 use mathlib.Core.List.{List, [], _∷_, _++_}
-use Prim.Native.Nat.{ℕ, _*_, _<_, _≤_}
+use Prim.Native.Nat.{ℕ, _*_, _≤_}
 use lib.Dec.{eqb, ltb, leb}
 use lib.ListN.{length}
 use Rattle.std.specs.declared.option.Option.{Option}
@@ -17,7 +17,7 @@ use Rattle.std.specs.declared.result.Result.the-variants.{Ok, Err}
 use Rattle.models.specs.Alphabet.{Alphabet}
 use Rattle.faults.specs.declared.Fault.{Fault}
 use Rattle.faults.specs.Causes.{bad-length, full-list, short-tables}
-use Rattle.listlaw.specs.Patterns.{Word, coded, states}
+use Rattle.listlaw.specs.Patterns.{coded, states}
 use Rattle.lists.specs.declared.record.Record.{Record}
 use Rattle.lists.specs.Lists.{Lists}
 

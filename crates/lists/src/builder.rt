@@ -2,7 +2,7 @@
 ghost use Prim.Native.Nat.{_<_, _≤_};
 ghost use lib.ListN.{length};
 ghost use denote.Ref.{now as at};
-ghost use Rattle.listlaw.proofs.Gathering.{Places};
+ghost use Rattle.listlaw.specs.Patterns.{Places};
 ghost use Rattle.lists.specs.Names.{names, Below, Lengths, Under};
 ghost use Rattle.lists.specs.Lists.{columns, Held};
 use crate::record::Record;
@@ -25,13 +25,16 @@ pub struct Builder<'a, L> {
     pub(crate) taken: usize,
     pub(crate) longest: usize,
     pub(crate) kind: PhantomData<L>,
+    // the records in use are a tree of distinct prefixes, each hanging under the one that is a letter shorter
     ghost some: { 1 ≤ used },
     ghost few: { used ≤ 512 },
     ghost below: { Below (at records) used },
     ghost deep: { Lengths (at records) used },
     ghost apart: { Places (names (at records) used) },
+    // only tables that are long enough take a pattern, and then the words have a place for each of its letters
     ghost fits: { (0 < taken → 512 ≤ length (at records)) },
     ghost small: { Under (columns (at words)) (at records) used },
+    // there are patterns of which these are the states and the ends; the calls say which
     ghost held: { Held (at records) used taken longest },
     ghost brief: { longest ≤ 12 },
 }

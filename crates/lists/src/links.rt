@@ -1,7 +1,7 @@
 // The failure links, the end marks that are inherited over them, and where each letter leads: what a list is finished with.
 // The words of the letter a stand from 512 a on, one for each state.
 ghost use mathlib.Core.Path.{_≡_};
-ghost use mathlib.Core.List.{List, [], _∷_, _++_};
+ghost use mathlib.Core.List.{List, []};
 ghost use Prim.Native.Nat.{ℕ, _+_, _*_, _<_, _≤_};
 ghost use lib.ListN.{length, getD, set, drop};
 ghost use Rattle.listlaw.specs.Patterns.{Word, longest};

@@ -11,6 +11,7 @@ use std::marker::PhantomData;
 pub struct Listed<'a, L> {
     pub(crate) records: &'a [Record],
     pub(crate) words: &'a [u16],
+    // states, letters that the words have a place for, patterns taken, and the memory
     pub(crate) used: u16,
     pub(crate) columns: u8,
     pub(crate) taken: usize,
@@ -18,8 +19,10 @@ pub struct Listed<'a, L> {
     pub(crate) kind: PhantomData<L>,
     ghost few: { used ≤ 512 },
     ghost narrow: { columns ≤ 32 },
+    // a list without patterns reads neither table, so they may be too short
     ghost deep: { (0 < taken → 512 ≤ length (at records)) },
     ghost wide: { (0 < taken → columns * 512 ≤ length (at words)) },
+    // there are patterns whose automaton this is, which shows both laws
     ghost built: { Kept used columns (stop-at (at records) columns taken) (goes-to (at words) taken) memory },
 }
 

@@ -1,13 +1,11 @@
 // The prefixes of the patterns as a tree in the records: each hangs under the one that is a letter shorter.
 ghost use mathlib.Core.Path.{_≡_};
 ghost use mathlib.Core.Bool.{false};
-ghost use mathlib.Core.List.{List, [], _∷_, _++_};
+ghost use mathlib.Core.List.{[], _∷_, _++_};
 ghost use Prim.Native.Nat.{ℕ, _+_, _-_, _^_, _<_, _≤_};
-ghost use lib.ListN.{length, getD, set, take};
-ghost use lib.Bits.{bitOr};
+ghost use lib.ListN.{length, getD, set};
 ghost use Rattle.std.specs.Options.{Cases as BySome};
-ghost use Rattle.std.specs.shelf.Lists.{All};
-ghost use Rattle.listlaw.specs.Patterns.{Word, member, gather, fronts};
+ghost use Rattle.listlaw.specs.Patterns.{member, gather, fronts};
 ghost use Rattle.lists.specs.Names.{rec, names, Trie, with-end, Reached, Entered};
 use crate::record::Record;
 

@@ -1,8 +1,6 @@
-use mathlib.Core.Path.{_≡_, refl, sym, ap, subst}
-use Prim.Native.Nat.{ℕ, _/_, _≤_, _<_, min}
+use mathlib.Core.Path.{_≡_, refl, ap, subst}
+use Prim.Native.Nat.{ℕ, _/_, _≤_, min}
 use native.Mathlib.Omega.{arith}
-use lib.ListN.{length}
-use Rattle.lists.specs.Names.{Under}
 use Rattle.lists.specs.Lists.{columns}
 use Rattle.lists.specs.Links.{Shape, Endings}
 use Rattle.lists.proofs.Levels.{first-shape}

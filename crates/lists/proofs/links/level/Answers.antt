@@ -1,11 +1,11 @@
-use mathlib.Core.Path.{_≡_, refl, sym, ap, subst, _∙_}
+use mathlib.Core.Path.{_≡_, sym, subst, _∙_}
 use mathlib.Core.List.{List, []}
-use Prim.Native.Nat.{ℕ, _+_, _<_, _≤_}
+use Prim.Native.Nat.{ℕ, _+_}
 use native.Mathlib.Omega.{arith}
 use lib.ListN.{length, getD}
 use Rattle.listlaw.specs.Patterns.{Word}
 use Rattle.lists.specs.declared.record.Record.{Record}
-use Rattle.lists.specs.Names.{rec, names}
+use Rattle.lists.specs.Names.{names}
 use Rattle.lists.specs.Links.{Shape, Endings}
 use Rattle.lists.proofs.Spelling.{names-first}
 use Rattle.lists.proofs.Levels.{shape-by, endings-by, skip-back, skip-on, next-back, next-on}

@@ -1,5 +1,3 @@
-use mathlib.Core.Path.{_≡_}
-use Prim.Native.Nat.{_<_}
 use native.Mathlib.Omega.{arith}
 use Rattle.lists.proofs.Rows.{column-room}
 use Rattle.lists.proofs.Linking.{link-first, link-next, under-inside}

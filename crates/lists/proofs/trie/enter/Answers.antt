@@ -1,7 +1,7 @@
 use mathlib.Core.Path.{_≡_, subst}
 use Prim.Native.Nat.{ℕ, _+_, _-_, _<_, _≤_}
 use native.Mathlib.Omega.{arith}
-use lib.ListN.{length, getD}
+use lib.ListN.{length}
 use Rattle.lists.specs.Names.{Entered}
 use Rattle.lists.proofs.Entering.{entered-none, entered-more, next-depth, next-room}
 use Rattle.lists.proofs.trie.enter.Needs as need

@@ -1,4 +1,3 @@
-use Prim.Native.Nat.{_+_, _<_}
 use Rattle.lists.specs.Names.{Entered}
 use Rattle.lists.proofs.trie.enter.Given as given
 

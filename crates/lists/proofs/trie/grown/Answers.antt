@@ -1,12 +1,12 @@
-use mathlib.Core.Path.{_≡_, refl, sym, ap, subst, _∙_}
-use mathlib.Core.Bool.{true, false}
+use mathlib.Core.Path.{_≡_, sym, ap, _∙_}
+use mathlib.Core.Bool.{false}
 use mathlib.Core.List.{List, [], _∷_, _++_}
-use Prim.Native.Nat.{ℕ, _+_, _-_, _<_, _≤_}
+use Prim.Native.Nat.{ℕ, _+_, _-_, _<_}
 use native.Mathlib.Omega.{arith}
 use lib.ListN.{length, getD, take}
 use Rattle.std.proofs.shelf.Lists.{take-more, take-all}
-use Rattle.listlaw.specs.Patterns.{Word, member, gather, fronts}
-use Rattle.listlaw.proofs.Gathering.{with, with-old}
+use Rattle.listlaw.specs.Patterns.{Word, member, gather, fronts, with}
+use Rattle.listlaw.proofs.Gathering.{with-old}
 use Rattle.listlaw.proofs.States.{gather-more, gather-missing}
 use Rattle.lists.specs.Names.{names}
 use Rattle.lists.proofs.Spelling.{names-first, length-names, names-closed, place-of, child-state, child-none}

@@ -1,7 +1,7 @@
-use mathlib.Core.Path.{_≡_, refl, sym, ap, _∙_}
+use mathlib.Core.Path.{sym, ap, _∙_}
 use Rattle.std.specs.declared.option.Option.{Option}
 use Prim.Native.Nat.{ℕ}
-use Rattle.texts.specs.Texts.{reading, stray, spelled}
+use Rattle.texts.specs.Texts.{reading, spelled}
 use Rattle.lists.specs.Reading.{stray-cause}
 use Rattle.lists.specs.Taking.{cause}
 use Rattle.lists.proofs.Spelt.{length-spelled}

@@ -6,7 +6,6 @@ use lib.ListN.{length}
 use Rattle.std.proofs.shelf.Lists.{getD-set-same}
 use Rattle.lists.specs.declared.record.Record.{Record}
 use Rattle.lists.specs.Names.{blank, rec}
-use Rattle.lists.specs.Lists.{Lists}
 use Rattle.lists.proofs.Starting.{lists-none, places-one}
 use Rattle.lists.proofs.builder.Builder.start.Given as given
 use Rattle.lists.proofs.builder.Builder.start.Needs as need

@@ -1,13 +1,12 @@
-use mathlib.Core.Path.{_≡_, refl, sym, ap, subst, _∙_}
+use mathlib.Core.Path.{refl, sym, subst}
 use mathlib.Core.Logic.{∥∥₁-map}
 use mathlib.Core.List.{List, [], _∷_, _++_}
-use Prim.Native.Nat.{ℕ, _+_, _-_, _≤_, _<_, max}
+use Prim.Native.Nat.{_+_, _-_, _≤_}
 use native.Mathlib.Omega.{arith}
-use lib.ListN.{length, getD, set}
-use Rattle.listlaw.specs.Patterns.{Word}
+use lib.ListN.{length}
 use Rattle.lists.specs.declared.record.Record.{Record}
-use Rattle.lists.specs.Names.{rec, Trie, Under, Entered}
-use Rattle.lists.specs.Lists.{columns, Lists}
+use Rattle.lists.specs.Names.{Trie, Under}
+use Rattle.lists.specs.Lists.{columns}
 use Rattle.lists.proofs.Marking.{marked-trie, marked-under, lists-taken}
 use Rattle.lists.proofs.builder.Builder.take.Given as given
 use Rattle.lists.proofs.builder.Builder.take.Needs as need
