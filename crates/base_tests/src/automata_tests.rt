@@ -1,13 +1,13 @@
 // Run automata and pairs at both ends of their ranges, walks, checks and texts.
-use automata::Automaton;
-use automata::check as check_text;
-use automata::walk;
 use crate::idle::Idle;
 use crate::idle::IdleAutomaton;
 use crate::kinds::One;
 use crate::kinds::OneLetter;
 use crate::kinds::Wide;
 use crate::kinds::WideLetter;
+use automata::Automaton;
+use automata::check as check_text;
+use automata::walk;
 use faults::Fault;
 use faults::FaultDebug;
 use faults::FaultPartialEq;
@@ -43,7 +43,10 @@ fn the_run_limit_is_1_to_8() -> Result<(), Fail> {
         check_eq(run.memory(), limit)?;
     }
     for limit in [0, 9, 9999, 65535] {
-        check_eq(refused(Run::<Two>::new(limit)), Some(Fault::bad_limit(limit as usize)))?;
+        check_eq(
+            refused(Run::<Two>::new(limit)),
+            Some(Fault::bad_limit(limit as usize)),
+        )?;
     }
     Ok(())
 }
@@ -71,7 +74,15 @@ fn stops_longer_runs<L: Letter>(text: &[L]) -> Result<(), Fail> {
 fn a_longer_run_is_stopped() -> Result<(), Fail> {
     stops_longer_runs(&[Two::B; 10])?;
     stops_longer_runs(&[One::Only; 10])?;
-    stops_longer_runs(&[Wide { a: true, b: true, c: true, d: true, e: true }; 10])?;
+    stops_longer_runs(
+        &[Wide {
+            a: true,
+            b: true,
+            c: true,
+            d: true,
+            e: true,
+        }; 10],
+    )?;
     check_eq(Run::<Wide>::new(8)?.states(), 257)?;
     check_eq(Run::<One>::new(1)?.states(), 2)
 }
@@ -112,7 +123,10 @@ fn a_pair_of_pairs_passes_what_all_pass() -> Result<(), Fail> {
     check_eq(pair.memory(), 4)?;
     check_eq(pair.states(), 7 * 5 * 9)?;
     check_eq(check_text(&pair, &[Two::A, Two::A, Two::B, Two::A]), None)?;
-    check_eq(check_text(&pair, &[Two::B, Two::A, Two::A, Two::A]), Some(3))
+    check_eq(
+        check_text(&pair, &[Two::B, Two::A, Two::A, Two::A]),
+        Some(3),
+    )
 }
 
 #[test]
@@ -121,8 +135,14 @@ fn a_text_is_read_for_letters_first() -> Result<(), Fail> {
     check_eq(check_bytes(&run, b"")?, None)?;
     check_eq(check_bytes(&run, b"aaa")?, Some(2))?;
     check_eq(check_bytes(&run, b"aabaabb")?, None)?;
-    check_eq(refused(check_bytes(&run, b"aaa?")), Some(Fault::no_letter(3)))?;
-    check_eq(refused(check_bytes(&run, b"\naa")), Some(Fault::no_letter(0)))?;
+    check_eq(
+        refused(check_bytes(&run, b"aaa?")),
+        Some(Fault::no_letter(3)),
+    )?;
+    check_eq(
+        refused(check_bytes(&run, b"\naa")),
+        Some(Fault::no_letter(0)),
+    )?;
     check_eq(stray::<Seepage>(b"aAdDe"), Some(4))?;
     check_eq(stray::<Seepage>(b""), None)
 }

@@ -48,10 +48,26 @@ fn numbers_stand_in_columns() -> Result<(), Fail> {
 
 #[test]
 fn a_number_is_read_from_four_columns() -> Result<(), Fail> {
-    for (n, field) in [(0, b"   0"), (7, b"   7"), (10, b"  10"), (4000, b"4000"), (9999, b"9999")] {
+    for (n, field) in [
+        (0, b"   0"),
+        (7, b"   7"),
+        (10, b"  10"),
+        (4000, b"4000"),
+        (9999, b"9999"),
+    ] {
         check_eq(read_four(field), Some(n))?;
     }
-    for field in [b"    ", b"  04", b"  00", b"4   ", b" 4 0", b"  +4", b"  -4", b"\t  4", b"000 "] {
+    for field in [
+        b"    ",
+        b"  04",
+        b"  00",
+        b"4   ",
+        b" 4 0",
+        b"  +4",
+        b"  -4",
+        b"\t  4",
+        b"000 ",
+    ] {
         check_eq(read_four(field), None)?;
     }
     check_eq(read_four(b"  4"), None)?;
@@ -122,7 +138,15 @@ fn the_kind_comes_first() -> Result<(), Fail> {
     check_eq(named(b"LA"), (Some(Kind::Two), 1))?;
     check_eq(named(b";\n; x\nLP\n"), (Some(Kind::Trend), 3))?;
     check_eq(named(b"LQ\n\n"), (Some(Kind::Seepage), 1))?;
-    for (input, line) in [(&b""[..], 0), (&b";"[..], 0), (&b"k   4\nLA"[..], 1), (&b";\nLB"[..], 2), (&b"LA\r"[..], 1), (&b"\nLA"[..], 1), (&b"L"[..], 1)] {
+    for (input, line) in [
+        (&b""[..], 0),
+        (&b";"[..], 0),
+        (&b"k   4\nLA"[..], 1),
+        (&b";\nLB"[..], 2),
+        (&b"LA\r"[..], 1),
+        (&b"\nLA"[..], 1),
+        (&b"L"[..], 1),
+    ] {
         check_eq(named(input), (None, line))?;
     }
     Ok(())
@@ -172,7 +196,13 @@ fn only_remarks_follow_the_trace() -> Result<(), Fail> {
     check(tail(&mut Lines::new(b";\n;x\n")).is_ok())?;
     match tail(&mut Lines::new(b";\n>a\n")) {
         Ok(_) => Err(Fail::new("not refused")),
-        Err(refusal) => check_eq(refusal, Refusal { fault: Fault::broken_file(), line: 2 }),
+        Err(refusal) => check_eq(
+            refusal,
+            Refusal {
+                fault: Fault::broken_file(),
+                line: 2,
+            },
+        ),
     }
 }
 
@@ -180,7 +210,10 @@ fn only_remarks_follow_the_trace() -> Result<(), Fail> {
 fn a_refusal_is_one_line() -> Result<(), Fail> {
     let mut bytes = [b'.'; 24];
     let mut page = Page::new(&mut bytes);
-    Refusal { fault: Fault::no_string(4), line: 12 }.show(&mut page);
+    Refusal {
+        fault: Fault::no_string(4),
+        line: 12,
+    }.show(&mut page);
     check_eq(page.used(), 19)?;
     check_eq(&bytes[0..20], b"R   8J     4    12\n.")?;
     for (fault, byte) in [

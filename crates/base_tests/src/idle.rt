@@ -19,7 +19,10 @@ impl<L> Idle<L> {
     pub fn new(states: u16) -> Idle<L>
         ensures { λ r. ⌜ r .states ≡ min (max states 1) 4096 ⌝ }
     {
-        Idle { states: states.max(1).min(4096), kind: PhantomData }
+        Idle {
+            states: states.max(1).min(4096),
+            kind: PhantomData,
+        }
     }
 }
 
@@ -39,7 +42,11 @@ pub impl<L: Letter> Automaton for Idle<L> as IdleAutomaton {
     }
 
     fn step(&self, state: u16, _letter: L) -> Option<u16> {
-        if state < self.states { Some(state) } else { None }
+        if state < self.states {
+            Some(state)
+        } else {
+            None
+        }
     }
 
     fn memory(&self) -> u16 {

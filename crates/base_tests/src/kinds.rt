@@ -49,12 +49,19 @@ pub impl Letter for Wide as WideLetter {
     }
 
     fn number(self) -> u8 {
-        16 * self.a as u8 + (8 * self.b as u8 + (4 * self.c as u8 + (2 * self.d as u8 + self.e as u8)))
+        16 * self.a as u8
+            + (8 * self.b as u8 + (4 * self.c as u8 + (2 * self.d as u8 + self.e as u8)))
     }
 
     fn from_number(n: u8) -> Option<Wide> {
         if n < 32 {
-            Some(Wide { a: n / 16 == 1, b: n / 8 % 2 == 1, c: n / 4 % 2 == 1, d: n / 2 % 2 == 1, e: n % 2 == 1 })
+            Some(Wide {
+                a: n / 16 == 1,
+                b: n / 8 % 2 == 1,
+                c: n / 4 % 2 == 1,
+                d: n / 2 % 2 == 1,
+                e: n % 2 == 1,
+            })
         } else {
             None
         }

@@ -1,10 +1,9 @@
 // Tests of the lower layers: letters, automata, texts, pages and files.
-pub mod idle;
-pub mod kinds;
-
 #[cfg(test)]
 mod automata_tests;
 #[cfg(test)]
 mod file_tests;
+pub mod idle;
+pub mod kinds;
 #[cfg(test)]
 mod letter_tests;

@@ -11,6 +11,7 @@ use std::io::Write;
 const INPUT: u64 = 60001;
 // The list's tables: a record for each state, and a word for each state and letter of the largest kind.
 const RECORDS: usize = 512;
+
 const WORDS: usize = 4096;
 // Longer than any report.
 const PAGE: usize = 256;

@@ -9,7 +9,14 @@ mod tests {
     use std::test::*;
 
     // What is printed of a file, with tables of `records` and `words`; `passes` says whether the text passes.
-    fn same(heap: Global, input: &[u8], records: usize, words: usize, want: &[u8], passes: bool) -> Result<(), Fail> {
+    fn same(
+        heap: Global,
+        input: &[u8],
+        records: usize,
+        words: usize,
+        want: &[u8],
+        passes: bool,
+    ) -> Result<(), Fail> {
         let mut table = vec![in heap; Record::BLANK; records]?;
         let mut cells = vec![in heap; 0u16; words]?;
         let mut out = vec![in heap; b'.'; 256]?;
@@ -27,11 +34,36 @@ mod tests {
     #[test]
     fn texts_are_checked(rt: LibcRuntime) -> Result<(), Fail> {
         let heap = rt.alloc();
-        report(heap, b"LA\nr   2\n>aaa\n", b"kind A: ab\npatterns: 0\nrun limit: 2\nautomaton: 5 states, memory 2\ntext: 3 letters\nwalked: 2 letters\nstopped at 2\n", false)?;
-        report(heap, b"LA\n!abab\n!ba\n>aba", b"kind A: ab\npatterns: 2\nrun limit: none\nautomaton: 5 states, memory 3\ntext: 3 letters\nwalked: 2 letters\nstopped at 2\n", false)?;
-        report(heap, b"LA\n>", b"kind A: ab\npatterns: 0\nrun limit: none\nautomaton: 1 states, memory 0\ntext: 0 letters\nwalked: 0 letters\npasses\n", true)?;
-        report(heap, b";\nLQ\n;\nk9999\nr   8\n!aA\n!aA\n>AaAa\n;\n", b"kind Q: aAbBcCdD\npatterns: 2\nrun limit: 8\nautomaton: 130 states, memory 8\ntext: 4 letters\nwalked: 2 letters\nstopped at 2\n", false)?;
-        report(heap, b"LP\nr   1\n!S\n>=+-*/=", b"kind P: =+-*/S\npatterns: 1\nrun limit: 1\nautomaton: 7 states, memory 1\ntext: 6 letters\nwalked: 6 letters\npasses\n", true)
+        report(
+            heap,
+            b"LA\nr   2\n>aaa\n",
+            b"kind A: ab\npatterns: 0\nrun limit: 2\nautomaton: 5 states, memory 2\ntext: 3 letters\nwalked: 2 letters\nstopped at 2\n",
+            false,
+        )?;
+        report(
+            heap,
+            b"LA\n!abab\n!ba\n>aba",
+            b"kind A: ab\npatterns: 2\nrun limit: none\nautomaton: 5 states, memory 3\ntext: 3 letters\nwalked: 2 letters\nstopped at 2\n",
+            false,
+        )?;
+        report(
+            heap,
+            b"LA\n>",
+            b"kind A: ab\npatterns: 0\nrun limit: none\nautomaton: 1 states, memory 0\ntext: 0 letters\nwalked: 0 letters\npasses\n",
+            true,
+        )?;
+        report(
+            heap,
+            b";\nLQ\n;\nk9999\nr   8\n!aA\n!aA\n>AaAa\n;\n",
+            b"kind Q: aAbBcCdD\npatterns: 2\nrun limit: 8\nautomaton: 130 states, memory 8\ntext: 4 letters\nwalked: 2 letters\nstopped at 2\n",
+            false,
+        )?;
+        report(
+            heap,
+            b"LP\nr   1\n!S\n>=+-*/=",
+            b"kind P: =+-*/S\npatterns: 1\nrun limit: 1\nautomaton: 7 states, memory 1\ntext: 6 letters\nwalked: 6 letters\npasses\n",
+            true,
+        )
     }
 
     #[test]
@@ -56,10 +88,38 @@ mod tests {
         ] {
             report(heap, input, want, false)?;
         }
-        same(heap, b"LA\n!a\n>a", 511, 4096, b"R   4P   512     2\n", false)?;
-        same(heap, b"LA\n!a\n>a", 512, 1023, b"R   4P   512     2\n", false)?;
-        same(heap, b"LA\n!b\n>a", 512, 1024, b"kind A: ab\npatterns: 1\nrun limit: none\nautomaton: 1 states, memory 0\ntext: 1 letters\nwalked: 1 letters\npasses\n", true)?;
-        same(heap, b"LA\n>a", 0, 0, b"kind A: ab\npatterns: 0\nrun limit: none\nautomaton: 1 states, memory 0\ntext: 1 letters\nwalked: 1 letters\npasses\n", true)
+        same(
+            heap,
+            b"LA\n!a\n>a",
+            511,
+            4096,
+            b"R   4P   512     2\n",
+            false,
+        )?;
+        same(
+            heap,
+            b"LA\n!a\n>a",
+            512,
+            1023,
+            b"R   4P   512     2\n",
+            false,
+        )?;
+        same(
+            heap,
+            b"LA\n!b\n>a",
+            512,
+            1024,
+            b"kind A: ab\npatterns: 1\nrun limit: none\nautomaton: 1 states, memory 0\ntext: 1 letters\nwalked: 1 letters\npasses\n",
+            true,
+        )?;
+        same(
+            heap,
+            b"LA\n>a",
+            0,
+            0,
+            b"kind A: ab\npatterns: 0\nrun limit: none\nautomaton: 1 states, memory 0\ntext: 1 letters\nwalked: 1 letters\npasses\n",
+            true,
+        )
     }
 
     // 60,000 bytes are a file, and one more is none.
@@ -72,7 +132,12 @@ mod tests {
         input[1] = b'A';
         input[2] = b'\n';
         input[3] = b'>';
-        report(heap, &input, b"kind A: ab\npatterns: 0\nrun limit: none\nautomaton: 1 states, memory 0\ntext: 59996 letters\nwalked: 59996 letters\npasses\n", true)?;
+        report(
+            heap,
+            &input,
+            b"kind A: ab\npatterns: 0\nrun limit: none\nautomaton: 1 states, memory 0\ntext: 59996 letters\nwalked: 59996 letters\npasses\n",
+            true,
+        )?;
         input.push(b'a')?;
         report(heap, &input, b"R  11F     0     0\n", false)
     }

@@ -78,7 +78,10 @@ impl<'a> Lines<'a> {
         ensures rest { λ r. ⌜ now (r .rest) ≡ now (input .entry) ⌝ }
         ensures number { λ r. ⌜ r .number ≡ 0 ⌝ }
     {
-        Lines { rest: input, number: 0 }
+        Lines {
+            rest: input,
+            number: 0,
+        }
     }
 
     // The number of the last line taken; 0 before the first.

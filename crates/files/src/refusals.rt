@@ -3,9 +3,9 @@ ghost use mathlib.Core.Path.{_≡_};
 ghost use Rattle.pages.specs.Pages.{Wrote};
 ghost use Rattle.files.specs.Refusals.{refusal-line, at-line};
 use faults::Fault;
-use pages::Page;
 use faults::FaultDebug;
 use faults::FaultPartialEq;
+use pages::Page;
 
 #[derive(Clone, Copy, Debug, PartialEq, Eq)]
 pub struct Refusal {

@@ -47,7 +47,10 @@ pub impl Letter for Seepage as SeepageLetter {
             3 => Flow::Three,
             _ => return None,
         };
-        Some(Seepage { flow, cloudy: n % 2 == 1 })
+        Some(Seepage {
+            flow,
+            cloudy: n % 2 == 1,
+        })
     }
 }
 

@@ -43,7 +43,11 @@ pub impl<P: Automaton, Q: Automaton<Kind = P::Kind>> Automaton for Pair<P, Q> as
 
     fn states(&self) -> u16 {
         let product = self.left.states() as u32 * self.right.states() as u32;
-        if product <= MOST_STATES { product as u16 } else { 1 }
+        if product <= MOST_STATES {
+            product as u16
+        } else {
+            1
+        }
     }
 
     fn first(&self) -> u16 {

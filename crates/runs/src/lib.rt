@@ -32,7 +32,10 @@ impl<L: Letter> Run<L> {
         if limit < 1 || limit > LONGEST {
             return Err(Fault::bad_limit(limit as usize));
         }
-        Ok(Run { limit, kind: PhantomData })
+        Ok(Run {
+            limit,
+            kind: PhantomData,
+        })
     }
 
     // The run limit.

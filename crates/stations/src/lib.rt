@@ -99,7 +99,11 @@ impl Form {
     pub fn new() -> Form
         ensures { λ r. ⌜ r ≡ record { stage = Stage.Named; window = None; limit = None } ⌝ }
     {
-        Form { stage: Stage::Named, window: None, limit: None }
+        Form {
+            stage: Stage::Named,
+            window: None,
+            limit: None,
+        }
     }
 
     // One more line after the kind line, up to the trace.
@@ -168,5 +172,8 @@ pub fn tail(lines: &mut Lines<'_>) -> Result<(), Refusal>
 pub fn early() -> Refusal
     ensures { λ r. ⌜ r ≡ tooEarly ⌝ }
 {
-    Refusal { fault: Fault::broken_file(), line: 0 }
+    Refusal {
+        fault: Fault::broken_file(),
+        line: 0,
+    }
 }

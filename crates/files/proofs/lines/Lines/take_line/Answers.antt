@@ -22,15 +22,15 @@ returns c =
     let s = c .args .self .now .rest .now in
     let n = c .line-len-n .result in
     let z : n - 0 ≡ n = omega arith in
-    elim (c .if-n-s .came)
-    [ then-n-s w ↦
-        let h : c .if-n-s .self .now ≡ drop (n + 1) s = ap (λ x. x .now) (w .self-is) ∙ take-rest s (n + 1) in
-        let e = lines-cut n s (w .if-n-s .taken) (c .line-len-n .ensures .before) (c .line-len-n .ensures .found (w .if-n-s .taken)) in
-        record { lines = simp (z, h) e; shorter = omega (arith, ap length h, length-drop (n + 1) s, w .if-n-s .taken); number = search needs }
-    | else-n-s w ↦
-        let all : length s ≤ n = w .if-n-s .left in
-        let t : take n s ≡ s = take-all n s all in
-        let h : c .if-n-s .self .now ≡ [] = (ap (λ x. x .now) (w .self-is) ∙ take-rest s n) ∙ drop-all n s all in
-        let e = lines-whole s (omega arith) (λ k l. c .line-len-n .ensures .before k (omega arith)) in
-        record { lines = simp (z, t, h) e; shorter = simp h (omega arith); number = search needs }
+    elim (c .if-n-s .came) [
+      | then-n-s w ↦
+          let h : c .if-n-s .self .now ≡ drop (n + 1) s = ap (λ x. x .now) (w .self-is) ∙ take-rest s (n + 1) in
+          let e = lines-cut n s (w .if-n-s .taken) (c .line-len-n .ensures .before) (c .line-len-n .ensures .found (w .if-n-s .taken)) in
+          record { lines = simp (z, h) e; shorter = omega (arith, ap length h, length-drop (n + 1) s, w .if-n-s .taken); number = search needs }
+      | else-n-s w ↦
+          let all : length s ≤ n = w .if-n-s .left in
+          let t : take n s ≡ s = take-all n s all in
+          let h : c .if-n-s .self .now ≡ [] = (ap (λ x. x .now) (w .self-is) ∙ take-rest s n) ∙ drop-all n s all in
+          let e = lines-whole s (omega arith) (λ k l. c .line-len-n .ensures .before k (omega arith)) in
+          record { lines = simp (z, t, h) e; shorter = simp h (omega arith); number = search needs }
     ]
