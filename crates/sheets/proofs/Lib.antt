@@ -1,0 +1,3 @@
+pub mod Slides
+pub mod Planning
+pub mod Outcomes
