@@ -1,0 +1,3 @@
+// Tests of the sheet.
+#[cfg(test)]
+mod sheet_tests;
