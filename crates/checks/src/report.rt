@@ -10,14 +10,14 @@ ghost use Rattle.pairlaw.specs.Pairs.{pair-model};
 ghost use Rattle.pages.specs.Pages.{Wrote};
 ghost use Rattle.texts.specs.Texts.{reading};
 ghost use Rattle.listings.specs.Listings.{limited};
-ghost use Rattle.checks.specs.Reports.{finding, shown, letter-bytes, kind-line, limit-line, automaton-line, text-lines, verdict as verdictOf};
+ghost use Rattle.checks.specs.Reports.{finding, shown, text-lines, verdict as verdictOf};
 use automata::Automaton;
 use faults::Fault;
+use headings::show_automaton;
+use headings::show_kind;
+use headings::show_limit;
 use letters::Letter;
 use letters::Printable;
-use letters::Seepage;
-use letters::Trend;
-use letters::Two;
 use pages::Page;
 use pairs::Pair;
 use pairs::PairAutomaton;
@@ -25,9 +25,6 @@ use runs::Run;
 use runs::RunAutomaton;
 use stations::Kind;
 use texts::check_bytes;
-use letters::SeepagePrintable;
-use letters::TrendPrintable;
-use letters::TwoPrintable;
 
 // What came of a text: the automaton's count of states and its memory, the letters of the text, and the place of the
 // letter at which it is stopped.
@@ -87,52 +84,6 @@ where
     }
 }
 
-// Writes the letters of a kind, by number.
-fn show_letters<L: Printable>(page: &mut Page<'_>)
-    ensures { λ _. ⌜ Wrote (now (page .entry)) (now (page .exit)) (letter-bytes (L·Printable .printed) (L·Letter .alphabet .size)) ⌝ }
-{
-    for n in 0..L::count() {
-        if let Some(letter) = L::from_number(n) {
-            page.push(letter.byte());
-        }
-    }
-}
-
-// Writes the line of a kind: its name, and its letters.
-fn show_named<L: Printable>(label: &[u8], page: &mut Page<'_>)
-    ensures { λ _. ⌜ Wrote (now (page .entry)) (now (page .exit)) (now (label .entry) ++ (letter-bytes (L·Printable .printed) (L·Letter .alphabet .size) ++ (10 ∷ []))) ⌝ }
-{
-    page.put(label);
-    show_letters::<L>(page);
-    page.push(b'\n');
-}
-
-fn show_kind(kind: Kind, page: &mut Page<'_>)
-    ensures { λ _. ⌜ Wrote (now (page .entry)) (now (page .exit)) (kind-line kind) ⌝ }
-{
-    match kind {
-        Kind::Two => show_named::<Two>(b"kind A: ", page),
-        Kind::Trend => show_named::<Trend>(b"kind P: ", page),
-        Kind::Seepage => show_named::<Seepage>(b"kind Q: ", page),
-    }
-}
-
-fn show_limit(limit: Option<u16>, page: &mut Page<'_>)
-    ensures { λ _. ⌜ Wrote (now (page .entry)) (now (page .exit)) (limit-line limit) ⌝ }
-{
-    match limit {
-        Some(r) => page.labelled(b"run limit: ", r as usize, b"\n"),
-        None => page.put(b"run limit: none\n"),
-    }
-}
-
-fn show_automaton(finding: &Finding, page: &mut Page<'_>)
-    ensures { λ _. ⌜ Wrote (now (page .entry)) (now (page .exit)) (automaton-line (now (finding .entry))) ⌝ }
-{
-    page.labelled(b"automaton: ", finding.states, b" states, memory ");
-    page.labelled(b"", finding.memory, b"\n");
-}
-
 fn show_verdict(stopped: Option<usize>, page: &mut Page<'_>)
     ensures { λ _. ⌜ Wrote (now (page .entry)) (now (page .exit)) (verdictOf stopped) ⌝ }
 {
@@ -158,7 +109,7 @@ impl Report {
         show_kind(self.kind, page);
         page.labelled(b"patterns: ", self.patterns, b"\n");
         show_limit(self.limit, page);
-        show_automaton(&self.finding, page);
+        show_automaton(self.finding.states, self.finding.memory, page);
         show_text(&self.finding, page);
     }
 }

@@ -1,3 +1,4 @@
+pub mod Bodies
 pub mod Models
 pub mod Patterns
 pub mod Prefaces

@@ -7,10 +7,10 @@ use Rattle.std.specs.declared.option.Option.the-variants.{Some, None}
 use Rattle.models.specs.Alphabet.{Bears}
 use Rattle.pages.specs.Pages.{Wrote}
 use Rattle.pages.proofs.Writes.{wrote-then}
-use Rattle.checks.specs.Reports.{letter-bytes}
-use Rattle.checks.proofs.report.show_letters.Given as given
-use Rattle.checks.proofs.report.show_letters.Needs.{in-Some, in-rest}
-use Rattle.checks.proofs.report.show_letters.Needs as need
+use Rattle.headings.specs.Headings.{letter-bytes}
+use Rattle.headings.proofs.show_letters.Given as given
+use Rattle.headings.proofs.show_letters.Needs.{in-Some, in-rest}
+use Rattle.headings.proofs.show_letters.Needs as need
 
 -- the letter with the number of this turn
 held : (g : given.Over) (c : need.Joined-from-number g) → Bears (g .L·Letter .alphabet .number) (c .loop-n .n) (c .from-number .result)

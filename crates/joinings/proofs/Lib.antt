@@ -1,0 +1,5 @@
+mod Cuts
+mod Heads
+mod Saying
+mod Spelt
+mod Texts

@@ -1,0 +1,4 @@
+pub mod Contexts
+pub mod Findings
+pub mod Reports
+pub mod Outcomes
