@@ -47,13 +47,13 @@ module _ {K : Type 0} (u v text : List K) where
       (take-at (u ++ row b v) (drop (length (u ++ row b v)) text) (j .length) (sym long), omega (arith, leb-true (length u + length (row b v)) (length text) h, is))
   placed b false h j e = never e
 
-  stands : (o : Option (Bridge K)) (j : Joined) → appended o v (length u) (length text) 0 ≡ Ok j → Stands o u v text j
+  stands : (o : Option (Bridge K)) (j : Joined) → appended o v (length u) (length text) ≡ Ok j → Stands o u v text j
   stands (Some b) j e = placed b (leb (length u + length (row b v)) (length text)) refl j e
   stands None j e = never e
 
   pub text-stands : (A : Alphabet K) (m : Model K) (words : ℕ) (j : Joined) → answer A m u v (length text) words ≡ Ok j → Stands (join A m u v) u v text j
   text-stands A m words j e =
-      let rest = appended (join A m u v) v (length u) (length text) 0 in
+      let rest = appended (join A m u v) v (length u) (length text) in
       let e1 = unrefused (ltb words (4 * m .count)) (short-work (4 * m .count)) (joined A m u v (length text)) j e in
       let tail2 = passed-or (stopped m u) 0 (passed-or (stopped m v) (length u) rest) in
       let e2 = unrefused (ltb 50000 (length u)) (long-context (length u)) (cond (ltb 50000 (length v)) (Err (long-context (length v))) tail2) j e1 in
