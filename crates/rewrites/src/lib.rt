@@ -1,7 +1,7 @@
 // Rewriting: a station file's trace is given to a sheet, and what comes of it is printed.
 pub mod outcome;
-pub mod report;
-pub mod settings;
+mod report;
+mod settings;
 pub mod trace;
 
 pub use outcome::Printed;
