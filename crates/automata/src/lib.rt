@@ -1,4 +1,6 @@
 // Automata: numbered states and the steps between them, over a kind of letters; the walk and the check over any of them.
+#![tactic(auto)]
+
 ghost use Rattle.std.specs.Prelude.{◌≡◌};
 ghost use Rattle.models.specs.Automaton.{Model, Lawful, walk as walk_of, stopped};
 
@@ -31,7 +33,7 @@ pub trait Automaton {
 
 // The state after `text` from the state `from`, or None where the walk is stopped.
 pub fn walk<S: Automaton>(automaton: &S, from: u16, text: &[S::Kind]) -> Option<u16>
-    ensures { result ≡ walk_of (model automaton.now).next from text.now }
+    ensures { result ≡ walk_of (S.model automaton.now).next from text.now }
 {
     let mut state = from;
     for letter in text {
@@ -42,7 +44,7 @@ pub fn walk<S: Automaton>(automaton: &S, from: u16, text: &[S::Kind]) -> Option<
 
 // The place of the letter at which `text` is stopped, or None where it passes.
 pub fn check<S: Automaton>(automaton: &S, text: &[S::Kind]) -> Option<usize>
-    ensures { result ≡ stopped (model automaton.now) text.now }
+    ensures { result ≡ stopped (S.model automaton.now) text.now }
 {
     let mut state = automaton.first();
     for (i, letter) in text.iter().enumerate() {

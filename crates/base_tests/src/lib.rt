@@ -1,4 +1,6 @@
 // Tests of the lower layers: letters, automata, texts, pages and files.
+#![tactic(auto)]
+
 #[cfg(test)]
 mod automata_tests;
 #[cfg(test)]

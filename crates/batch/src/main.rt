@@ -2,6 +2,8 @@
 // a byte 0: its first byte says the program, `w` to rewrite, `j` to join and `c` to check, and the rest is the file. For
 // each frame it prints what that program prints, and then its status and a newline. The tables are used again from file
 // to file, so what a file leaves in them meets the next one.
+#![tactic(auto)]
+
 ghost use Rattle.std.specs.Prelude.{◌≤◌, length};
 
 use checks::check_file;

@@ -1,4 +1,6 @@
 // Checks the text of a station file that is read from standard input. Status 0: the text passes.
+#![tactic(auto)]
+
 use checks::{Printed, check_file};
 use lists::Record;
 use std::io;

@@ -1,4 +1,5 @@
 // Station files, and what the check prints of each: every cause that a check can meet, and both ends of its ranges.
+#![tactic(auto)]
 
 #[cfg(test)]
 mod tests {

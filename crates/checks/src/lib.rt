@@ -1,4 +1,6 @@
 // The check of a text by a station file's automaton, and what is printed of it.
+#![tactic(auto)]
+
 pub mod outcome;
 pub mod report;
 

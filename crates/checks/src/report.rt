@@ -39,7 +39,7 @@ pub struct Report {
 pub fn judge<S: Automaton>(automaton: &S, text: &[u8]) -> Result<Finding, Fault>
 where
     S::Kind: Printable,
-    ensures { result ≡ finding (model automaton.now) (reading S.Kind.Letter.alphabet S.Kind.Printable.parsed) text.now }
+    ensures { result ≡ finding (S.model automaton.now) (reading S.Kind.Letter.alphabet S.Kind.Printable.parsed) text.now }
 {
     let stopped = check_bytes(automaton, text)?;
     Ok(Finding {
@@ -72,7 +72,7 @@ pub fn judge_limited<P: Automaton + Drop>(
 ) -> Result<Finding, Fault>
 where
     P::Kind: Printable,
-    ensures { result ≡ limited (model automaton) P.Kind.Letter.alphabet limit (λ m. finding m (reading P.Kind.Letter.alphabet P.Kind.Printable.parsed) text.now) }
+    ensures { result ≡ limited (P.model automaton) P.Kind.Letter.alphabet limit (λ m. finding m (reading P.Kind.Letter.alphabet P.Kind.Printable.parsed) text.now) }
 {
     match limit {
         Some(r) => {

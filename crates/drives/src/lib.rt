@@ -1,4 +1,6 @@
 // Giving a sheet a whole trace.
+#![tactic(auto)]
+
 ghost use Rattle.std.specs.Prelude.{◌≡◌, List, length};
 ghost use Rattle.sheetlaw.specs.Calls.{Turn};
 ghost use Rattle.sheetlaw.specs.Step.{needs};
@@ -20,9 +22,9 @@ pub fn follow<S: Automaton>(
     work: &mut [u16],
 )
     ensures keeps { (sheet.new.k ≡ sheet.old.k) × (sheet.new.automaton ≡ sheet.old.automaton) }
-    ensures work { work.new ≡ left_over (needs (model sheet.old.automaton)) work.old events.now }
-    ensures leaves { (contents sheet.new, text.new) ≡ driven (model sheet.old.automaton) sheet.old.k (row_of S.Kind.Letter.alphabet (model sheet.old.automaton)) (length work.old) (contents sheet.old, text.old) events.now }
-    ensures stands { (t0 : List S.Kind) (h : List (Turn S.Kind)) → Stands S.Kind.Letter.alphabet model t0 h sheet.old text.old → Stands S.Kind.Letter.alphabet model t0 (turns (model sheet.old.automaton) sheet.old.k (row_of S.Kind.Letter.alphabet (model sheet.old.automaton)) t0 h (brought (needs (model sheet.old.automaton)) work.old events.now)) sheet.new text.new }
+    ensures work { work.new ≡ left_over (needs (S.model sheet.old.automaton)) work.old events.now }
+    ensures leaves { (contents sheet.new, text.new) ≡ driven (S.model sheet.old.automaton) sheet.old.k (row_of S.Kind.Letter.alphabet (S.model sheet.old.automaton)) (length work.old) (contents sheet.old, text.old) events.now }
+    ensures stands { (t0 : List S.Kind) (h : List (Turn S.Kind)) → Stands S.Kind.Letter.alphabet S.model t0 h sheet.old text.old → Stands S.Kind.Letter.alphabet S.model t0 (turns (S.model sheet.old.automaton) sheet.old.k (row_of S.Kind.Letter.alphabet (S.model sheet.old.automaton)) t0 h (brought (needs (S.model sheet.old.automaton)) work.old events.now)) sheet.new text.new }
 {
     for event in events {
         match *event {

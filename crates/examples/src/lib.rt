@@ -1,4 +1,6 @@
 // The worked examples, as one statement over a list, on the definitions that the contracts cite.
+#![tactic(auto)]
+
 ghost use Rattle.std.specs.List.{AllByRecursion as All};
 ghost use Rattle.examples.specs.Examples.{Holds, examples};
 

@@ -1,5 +1,7 @@
 // Faults: why a call was refused. A fault keeps its number, layer and place from the call that found it to the
 // program's refusal line.
+#![tactic(auto)]
+
 ghost use Rattle.std.specs.Prelude.{◌≡◌};
 ghost use Rattle.faults.specs.Causes.{no_letter, bad_length, full_list, short_tables, short_work, bad_limit, large_pair, bad_window, long_memory, stopped_context, no_string, short_text, long_context, full_sheet, broken_file, layer_byte};
 

@@ -1,4 +1,6 @@
 // Station files: their lines, the numbers in their columns, and the refusal line.
+#![tactic(auto)]
+
 pub mod fields;
 pub mod lines;
 pub mod refusals;

@@ -1,4 +1,6 @@
 // The lines with which every report on a station file begins: its kind, its run limit and its automaton.
+#![tactic(auto)]
+
 ghost use Rattle.std.specs.Prelude.{◌≡◌, [], ◌∷◌, ◌++◌};
 ghost use Rattle.pages.specs.Pages.{Wrote};
 ghost use Rattle.headings.specs.Headings.{letter_bytes, kind_line, limit_line, automaton_line};

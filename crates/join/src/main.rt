@@ -1,4 +1,6 @@
 // Joins the two contexts on the trace line of a station file that is read from standard input. Status 0: they are joined.
+#![tactic(auto)]
+
 use joinings::{Desk, Printed, join_file};
 use letters::{Flow, Seepage, Trend, Two};
 use lists::Record;

@@ -7,12 +7,11 @@ use faults::Fault;
 use letters::{Letter, Printable};
 
 // Two contexts, as parts of a lent table of letters.
+#[derive_where(Clone, Copy)]
 pub struct Contexts<'a, L> {
     pub left: &'a [L],
     pub right: &'a [L],
 }
-
-impl<'a, L> Copy for Contexts<'a, L> {}
 
 // The place of the first `?`, or None.
 fn gap(content: &[u8]) -> Option<usize>

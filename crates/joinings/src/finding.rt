@@ -16,6 +16,7 @@ use runs::Run;
 
 // What came of two contexts: the automaton's count of states and its memory, the letters of the contexts, the overlap
 // taken, the letters filled in, and the joined text as a part of the text table.
+#[derive_where(Clone, Copy)]
 pub struct Finding<'a, L> {
     pub states: usize,
     pub memory: usize,
@@ -26,8 +27,6 @@ pub struct Finding<'a, L> {
     pub text: &'a [L],
 }
 
-impl<'a, L> Copy for Finding<'a, L> {}
-
 // Joins the contexts by `automaton`.
 fn join_by<'a, S: Automaton>(
     automaton: &S,
@@ -35,7 +34,7 @@ fn join_by<'a, S: Automaton>(
     text: &'a mut [S::Kind],
     work: &mut [u16],
 ) -> Result<Finding<'a, S::Kind>, Fault>
-    ensures { said result ≡ joining S.Kind.Letter.alphabet (model automaton.now) (length text.old) (length work.old) contexts.entry.left.now contexts.entry.right.now }
+    ensures { said result ≡ joining S.Kind.Letter.alphabet (S.model automaton.now) (length text.old) (length work.old) contexts.entry.left.now contexts.entry.right.now }
 {
     let joined = join(automaton, contexts.left, contexts.right, text, work)?;
     let length = joined.length;
@@ -72,7 +71,7 @@ fn join_limited<'a, P: Automaton + Drop>(
     text: &'a mut [P::Kind],
     work: &mut [u16],
 ) -> Result<Finding<'a, P::Kind>, Fault>
-    ensures { said result ≡ limited (model automaton) P.Kind.Letter.alphabet limit (λ m. joining P.Kind.Letter.alphabet m (length text.old) (length work.old) contexts.entry.left.now contexts.entry.right.now) }
+    ensures { said result ≡ limited (P.model automaton) P.Kind.Letter.alphabet limit (λ m. joining P.Kind.Letter.alphabet m (length text.old) (length work.old) contexts.entry.left.now contexts.entry.right.now) }
 {
     match limit {
         Some(r) => {
@@ -94,7 +93,7 @@ pub fn settle<'a, P: Automaton + Drop>(
 ) -> Result<Finding<'a, P::Kind>, Fault>
 where
     P::Kind: Printable,
-    ensures { said result ≡ settled P.Kind.Letter.alphabet (reading P.Kind.Letter.alphabet P.Kind.Printable.parsed) (length letters.old) (length text.old) (length work.old) (model automaton) limit content.now }
+    ensures { said result ≡ settled P.Kind.Letter.alphabet (reading P.Kind.Letter.alphabet P.Kind.Printable.parsed) (length letters.old) (length text.old) (length work.old) (P.model automaton) limit content.now }
 {
     let contexts = read_contexts(content, letters)?;
     join_limited(automaton, limit, contexts, text, work)

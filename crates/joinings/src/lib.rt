@@ -1,4 +1,6 @@
 // The join of two contexts by a station file's automaton, and what is printed of it.
+#![tactic(auto)]
+
 pub mod contexts;
 pub mod finding;
 pub mod outcome;

@@ -10,14 +10,13 @@ use pages::Page;
 use stations::Kind;
 
 // A file's kind, the number of its patterns, its run limit, and what is found of its contexts.
+#[derive_where(Clone, Copy)]
 pub struct Report<'a, L> {
     pub kind: Kind,
     pub patterns: usize,
     pub limit: Option<u16>,
     pub finding: Finding<'a, L>,
 }
-
-impl<'a, L> Copy for Report<'a, L> {}
 
 // Writes a text as bytes.
 fn show_text<L: Printable>(text: &[L], page: &mut Page<'_>)

@@ -1,3 +1,5 @@
 // Tests of the join of a station file, through the library call.
+#![tactic(auto)]
+
 #[cfg(test)]
 mod tests;

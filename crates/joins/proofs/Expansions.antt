@@ -16,7 +16,7 @@ pub record Expanding {K : Type 0} (pick : ℕ → Option K) (m : Model K) (head 
   pub long_seen : length seen ≡ m.count
   pub long_queue : length qs ≡ m.count
   pub long_parents : length ps ≡ m.count
-  pub long-letters : length ls ≡ m.count
+  pub long_letters : length ls ≡ m.count
 
 step_stays : {K : Type 0} (m : Model K) → Lawful m → (q t : ℕ) (o : Option K) → step_from m.next q o ≡ Some t → t < m.count
 step_stays m lawful q t (Some x) e = lawful.stays q x t e
@@ -38,7 +38,7 @@ module _ {K : Type 0} (pick : ℕ → Option K) (m : Model K) (head tail : ℕ) 
     long_seen = a;
     long_queue = b;
     long_parents = d;
-    long-letters = e;
+    long_letters = e;
   }
 
 module _ {K : Type 0} (pick : ℕ → Option K) (m : Model K) (lawful : Lawful m) (head tail : ℕ) (was : List ℕ) (c end : ℕ) (seen qs ps ls : List ℕ) (x : Expanding pick m head tail was c end seen qs ps ls) where
@@ -62,7 +62,7 @@ module _ {K : Type 0} (pick : ℕ → Option K) (m : Model K) (lawful : Lawful m
     long_seen = x.long_seen;
     long_queue = x.long_queue;
     long_parents = x.long_parents;
-    long-letters = x.long-letters;
+    long_letters = x.long_letters;
   }
 
   -- the letter leads nowhere
@@ -81,7 +81,7 @@ module _ {K : Type 0} (pick : ℕ → Option K) (m : Model K) (lawful : Lawful m
       let space = expanding_room to lt free in
       let on = x.on in
       record {
-        going = going_write (step_by pick m) (by was 0) m.count head end c seen qs ps ls x.going x.long_seen x.long_queue x.long_parents x.long-letters to (at_head (Some to) e) free lt;
+        going = going_write (step_by pick m) (by was 0) m.count head end c seen qs ps ls x.going x.long_seen x.long_queue x.long_parents x.long_letters to (at_head (Some to) e) free lt;
         kept = λ i h. get_or-set_other qs end i to 0 (λ z. omega arith) ∙ x.kept i h;
         here = x.here;
         on = omega arith;
@@ -89,7 +89,7 @@ module _ {K : Type 0} (pick : ℕ → Option K) (m : Model K) (lawful : Lawful m
         long_seen = length-set seen to 1 ∙ x.long_seen;
         long_queue = length-set qs end to ∙ x.long_queue;
         long_parents = length-set ps end head ∙ x.long_parents;
-        long-letters = length-set ls end c ∙ x.long-letters;
+        long_letters = length-set ls end c ∙ x.long_letters;
       }
 
   -- and numbers from size on are those of no letters

@@ -15,7 +15,7 @@ pub record Exploring {K : Type 0} (pick : ℕ → Option K) (m : Model K) (v : L
   pub long_seen : length seen ≡ m.count
   pub long_queue : length qs ≡ m.count
   pub long_parents : length ps ≡ m.count
-  pub long-letters : length ls ≡ m.count
+  pub long_letters : length ls ≡ m.count
 
 module _ {K : Type 0} (pick : ℕ → Option K) (m : Model K) (v : List K) (start : ℕ) where
   pub exploring_start : (seen qs ps ls : List ℕ) → start < m.count → seen ≡ replicate m.count 0 → length qs ≡ m.count → length ps ≡ m.count → length ls ≡ m.count → Exploring pick m v start 0 1 (set seen start 1) (set qs 0 start) ps ls
@@ -27,7 +27,7 @@ module _ {K : Type 0} (pick : ℕ → Option K) (m : Model K) (v : List K) (star
     long_seen = length-set seen start 1 ∙ ap length free ∙ length-replicate m.count 0;
     long_queue = length-set qs 0 start ∙ b;
     long_parents = d;
-    long-letters = e;
+    long_letters = e;
   }
 
   module _ (head tail : ℕ) (seen qs ps ls : List ℕ) (x : Exploring pick m v start head tail seen qs ps ls) where
@@ -48,7 +48,7 @@ module _ {K : Type 0} (pick : ℕ → Option K) (m : Model K) (v : List K) (star
           long_seen = a ∙ x.long_seen;
           long_queue = b ∙ x.long_queue;
           long_parents = d ∙ x.long_parents;
-          long-letters = e ∙ x.long-letters;
+          long_letters = e ∙ x.long_letters;
         }
 
     pub exploring_found : head < tail → serves m v (by qs head) ≡ true → Found (step_by pick m) (serves m v) start (by qs) (by ps) (by ls) head

@@ -15,7 +15,7 @@ const MOST: usize = 50000;
 
 // Whether both contexts are short enough and pass alone.
 fn passing<S: Automaton>(automaton: &S, left: &[S::Kind], right: &[S::Kind]) -> Result<(), Fault>
-    ensures { result ≡ passed (model automaton.now) left.now right.now (Ok tt) }
+    ensures { result ≡ passed (S.model automaton.now) left.now right.now (Ok tt) }
 {
     if left.len() > MOST {
         return Err(Fault::long_context(left.len()));
@@ -40,9 +40,9 @@ fn within<S: Automaton>(
     text: &mut [S::Kind],
     words: &mut [u16],
 ) -> Result<Joined, Fault>
-    requires { length words.old ≡ 4 * (model automaton.now).count }
-    ensures answer { result ≡ joined_of S.Kind.Letter.alphabet (model automaton.now) left.now right.now (length text.old) }
-    ensures text { text.new ≡ text_after result S.Kind.Letter.alphabet (model automaton.now) left.now right.now text.old }
+    requires { length words.old ≡ 4 * (S.model automaton.now).count }
+    ensures answer { result ≡ joined_of S.Kind.Letter.alphabet (S.model automaton.now) left.now right.now (length text.old) }
+    ensures text { text.new ≡ text_after result S.Kind.Letter.alphabet (S.model automaton.now) left.now right.now text.old }
     ensures work { words.new ≡ replicate (length words.old) 0 }
 {
     let marks = Marks { words };
@@ -65,10 +65,10 @@ pub fn join<S: Automaton>(
     text: &mut [S::Kind],
     work: &mut [u16],
 ) -> Result<Joined, Fault>
-    ensures answer { result ≡ answer_of S.Kind.Letter.alphabet (model automaton.now) left.now right.now (length text.old) (length work.old) }
-    ensures text { text.new ≡ text_after result S.Kind.Letter.alphabet (model automaton.now) left.now right.now text.old }
-    ensures work { work.new ≡ work_after (model automaton.now) work.old }
-    ensures least { JoinIs S.Kind.Letter.alphabet (model automaton.now) left.now right.now (join_of S.Kind.Letter.alphabet (model automaton.now) left.now right.now) }
+    ensures answer { result ≡ answer_of S.Kind.Letter.alphabet (S.model automaton.now) left.now right.now (length text.old) (length work.old) }
+    ensures text { text.new ≡ text_after result S.Kind.Letter.alphabet (S.model automaton.now) left.now right.now text.old }
+    ensures work { work.new ≡ work_after (S.model automaton.now) work.old }
+    ensures least { JoinIs S.Kind.Letter.alphabet (S.model automaton.now) left.now right.now (join_of S.Kind.Letter.alphabet (S.model automaton.now) left.now right.now) }
 {
     let needed = 4 * automaton.states() as usize;
     if work.len() < needed {

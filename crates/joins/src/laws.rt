@@ -5,20 +5,20 @@ use letters::Letter;
 
 // The filling is the least string that fills, over any letters that may be filled in.
 pub fn filling_is_least<K: Letter>()
-    ensures { FillingLaw alphabet }
+    ensures { FillingLaw K.alphabet }
 {}
 
 // The join by overlap and filling is the least string that joins, and there is none exactly where no string joins.
 pub fn join_is_least<K: Letter>()
-    ensures { JoinLaw alphabet }
+    ensures { JoinLaw K.alphabet }
 {}
 
 // The least string that joins is the one that overlap and filling give.
 pub fn join_is_the_one<K: Letter>()
-    ensures { JoinOnce alphabet }
+    ensures { JoinOnce K.alphabet }
 {}
 
 // The row from the last window of a text to the next is the least that continues the text.
 pub fn next_row_is_least<K: Letter>()
-    ensures { NextRowLaw alphabet }
+    ensures { NextRowLaw K.alphabet }
 {}

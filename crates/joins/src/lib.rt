@@ -1,4 +1,6 @@
 // Joins: the shortest passing string between two contexts, and the row that brings a text to its next window.
+#![tactic(auto)]
+
 pub mod answers;
 pub mod contexts;
 pub mod laws;

@@ -7,7 +7,7 @@ use letters::Letter;
 
 // Whether two strings are the same, letter by letter.
 fn same<K: Letter>(a: &[K], b: &[K]) -> bool
-    ensures { result ≡ same_of alphabet.number a.now b.now }
+    ensures { result ≡ same_of K.alphabet.number a.now b.now }
 {
     if a.len() != b.len() {
         return false;
@@ -30,7 +30,7 @@ pub(crate) fn overlap<S: Automaton>(
     most: usize,
 ) -> Option<usize>
     requires { (most ≤ length left.now) × (most ≤ length right.now) }
-    ensures { result ≡ overlap_of S.Kind.Letter.alphabet (model automaton.now) state left.now right.now most }
+    ensures { result ≡ overlap_of S.Kind.Letter.alphabet (S.model automaton.now) state left.now right.now most }
 {
     let mut shared = most;
     while shared > 0 {

@@ -29,8 +29,8 @@ pub fn find<S: Automaton>(
     letters: &mut [u16],
 ) -> Option<Way>
     requires most { (most ≤ length left.now) × (most ≤ length right.now) }
-    requires long { (length seen.old ≡ (model automaton.now).count) × ((length queue.old ≡ (model automaton.now).count) × ((length parents.old ≡ (model automaton.now).count) × (length letters.old ≡ (model automaton.now).count))) }
-    ensures { WayIs S.Kind.Letter.alphabet (by parents.new) (by letters.new) (model automaton.now).count (length right.now) result (bridge S.Kind.Letter.alphabet (model automaton.now) (all_letters S.Kind.Letter.alphabet) left.now right.now most) }
+    requires long { (length seen.old ≡ (S.model automaton.now).count) × ((length queue.old ≡ (S.model automaton.now).count) × ((length parents.old ≡ (S.model automaton.now).count) × (length letters.old ≡ (S.model automaton.now).count))) }
+    ensures { WayIs S.Kind.Letter.alphabet (by parents.new) (by letters.new) (S.model automaton.now).count (length right.now) result (bridge S.Kind.Letter.alphabet (S.model automaton.now) (all_letters S.Kind.Letter.alphabet) left.now right.now most) }
 {
     let Some(state) = walk(automaton, automaton.first(), left) else {
         return None;
@@ -57,10 +57,10 @@ fn write_filling<K: Letter>(
     right: &[K],
     out: &mut [K],
 )
-    requires spells { Spells alphabet (by parents.now) (by letters.now) (length parents.now) place filled }
+    requires spells { Spells K.alphabet (by parents.now) (by letters.now) (length parents.now) place filled }
     requires long { length letters.now ≡ length parents.now }
     requires room { length out.old ≡ filled + length right.now }
-    ensures { out.new ≡ spelling alphabet.letter (by parents.now) (by letters.now) place ++ right.now }
+    ensures { out.new ≡ spelling K.alphabet.letter (by parents.now) (by letters.now) place ++ right.now }
 {
     let end = out.len();
     spell(parents, letters, place, &mut out[0..filled]);
@@ -69,10 +69,10 @@ fn write_filling<K: Letter>(
 
 // Writes the row of the bridge; `out` has room for just this row.
 pub fn write<K: Letter>(way: Way, right: &[K], parents: &[u16], letters: &[u16], out: &mut [K])
-    requires fit { Fit alphabet (by parents.now) (by letters.now) (length parents.now) (length right.now) way }
+    requires fit { Fit K.alphabet (by parents.now) (by letters.now) (length parents.now) (length right.now) way }
     requires long { length letters.now ≡ length parents.now }
     requires room { length out.old ≡ added (length right.now) way }
-    ensures { out.new ≡ row (told alphabet (by parents.now) (by letters.now) way) right.now }
+    ensures { out.new ≡ row (told K.alphabet (by parents.now) (by letters.now) way) right.now }
 {
     match way {
         Way::Overlap(shared) => out.copy_from_slice(&right[shared..]),
@@ -93,10 +93,10 @@ pub(crate) fn append<S: Automaton>(
     words: &mut [u16],
 ) -> Result<Joined, Fault>
     requires most { (most ≤ length left.now) × (most ≤ length right.now) }
-    requires work { length words.old ≡ 4 * (model automaton.now).count }
+    requires work { length words.old ≡ 4 * (S.model automaton.now).count }
     requires small { at + length right.now < 2 ^ 62 }
-    ensures answer { result ≡ appended (bridge S.Kind.Letter.alphabet (model automaton.now) (all_letters S.Kind.Letter.alphabet) left.now right.now most) right.now at (length text.old) }
-    ensures text { text.new ≡ appended_text (bridge S.Kind.Letter.alphabet (model automaton.now) (all_letters S.Kind.Letter.alphabet) left.now right.now most) right.now at text.old }
+    ensures answer { result ≡ appended (bridge S.Kind.Letter.alphabet (S.model automaton.now) (all_letters S.Kind.Letter.alphabet) left.now right.now most) right.now at (length text.old) }
+    ensures text { text.new ≡ appended_text (bridge S.Kind.Letter.alphabet (S.model automaton.now) (all_letters S.Kind.Letter.alphabet) left.now right.now most) right.now at text.old }
 {
     let n = automaton.states() as usize;
     let (seen, rest) = words.split_at_mut(n);

@@ -9,7 +9,7 @@ use letters::Letter;
 
 // The next state by the letter with a number.
 fn step_by<S: Automaton>(automaton: &S, state: u16, number: u8) -> Option<u16>
-    ensures { result ≡ step_by Kind-as-Letter.alphabet.letter (model automaton.now) state number }
+    ensures { result ≡ step_by S.Kind.Letter.alphabet.letter (S.model automaton.now) state number }
 {
     match S::Kind::from_number(number) {
         Some(letter) => automaton.step(state, letter),
@@ -27,10 +27,10 @@ fn expand<S: Automaton>(
     parents: &mut [u16],
     letters: &mut [u16],
 ) -> u16
-    requires long { (length seen.old ≡ (model automaton.now).count) × ((length queue.old ≡ (model automaton.now).count) × ((length parents.old ≡ (model automaton.now).count) × (length letters.old ≡ (model automaton.now).count))) }
+    requires long { (length seen.old ≡ (S.model automaton.now).count) × ((length queue.old ≡ (S.model automaton.now).count) × ((length parents.old ≡ (S.model automaton.now).count) × (length letters.old ≡ (S.model automaton.now).count))) }
     requires here { head < tail }
-    requires paused { Paused (step_by Kind-as-Letter.alphabet.letter (model automaton.now)) (slice_index queue.old 0) (model automaton.now).count head tail seen.old (by queue.old) (by parents.old) (by letters.old) }
-    ensures paused { Paused (step_by Kind-as-Letter.alphabet.letter (model automaton.now)) (slice_index queue.old 0) (model automaton.now).count (head + 1) result seen.new (by queue.new) (by parents.new) (by letters.new) }
+    requires paused { Paused (step_by S.Kind.Letter.alphabet.letter (S.model automaton.now)) (slice_index queue.old 0) (S.model automaton.now).count head tail seen.old (by queue.old) (by parents.old) (by letters.old) }
+    ensures paused { Paused (step_by S.Kind.Letter.alphabet.letter (S.model automaton.now)) (slice_index queue.old 0) (S.model automaton.now).count (head + 1) result seen.new (by queue.new) (by parents.new) (by letters.new) }
     ensures kept { (i : ℕ) → i < tail → slice_index queue.new i ≡ slice_index queue.old i }
 {
     let state = queue[head as usize];
@@ -59,11 +59,11 @@ pub(crate) fn explore<S: Automaton>(
     parents: &mut [u16],
     letters: &mut [u16],
 ) -> Option<u16>
-    requires among { start < (model automaton.now).count }
-    requires unmarked { seen.old ≡ replicate (model automaton.now).count 0 }
-    requires long { (length queue.old ≡ (model automaton.now).count) × ((length parents.old ≡ (model automaton.now).count) × (length letters.old ≡ (model automaton.now).count)) }
-    ensures explored { Explored (step_by S.Kind.Letter.alphabet.letter (model automaton.now)) (serves (model automaton.now) right.now) start (by queue.new) (by parents.new) (by letters.new) result }
-    ensures within { (i : ℕ) → result ≡ Some i → i < (model automaton.now).count }
+    requires among { start < (S.model automaton.now).count }
+    requires unmarked { seen.old ≡ replicate (S.model automaton.now).count 0 }
+    requires long { (length queue.old ≡ (S.model automaton.now).count) × ((length parents.old ≡ (S.model automaton.now).count) × (length letters.old ≡ (S.model automaton.now).count)) }
+    ensures explored { Explored (step_by S.Kind.Letter.alphabet.letter (S.model automaton.now)) (serves (S.model automaton.now) right.now) start (by queue.new) (by parents.new) (by letters.new) result }
+    ensures within { (i : ℕ) → result ≡ Some i → i < (S.model automaton.now).count }
 {
     seen[start as usize] = 1;
     queue[0] = start;

@@ -23,9 +23,9 @@ pub(crate) fn depth(parents: &[u16], place: u16) -> usize
 // Writes the letters that lead to `place`, from the last to the first; `out` has room for just these.
 pub(crate) fn spell<K: Letter>(parents: &[u16], letters: &[u16], place: u16, out: &mut [K])
     requires within { (place < length parents.now) × (place < length letters.now) }
-    requires traced { Traced alphabet.letter (by parents.now) (by letters.now) place }
+    requires traced { Traced K.alphabet.letter (by parents.now) (by letters.now) place }
     requires room { length out.old ≡ length (numbers (by parents.now) (by letters.now) place) }
-    ensures { out.new ≡ spelling alphabet.letter (by parents.now) (by letters.now) place }
+    ensures { out.new ≡ spelling K.alphabet.letter (by parents.now) (by letters.now) place }
 {
     let mut at = place;
     let mut left = out.len();

@@ -1,4 +1,6 @@
 // Letters: small kinds of values, each with a number, and the kinds that have a printed form.
+#![tactic(auto)]
+
 pub mod kind;
 pub mod seepage;
 pub mod trend;

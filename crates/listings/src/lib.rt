@@ -1,4 +1,6 @@
 // A station file from its kind line to its trace: its settings, and its patterns taken into a list.
+#![tactic(auto)]
+
 ghost use Rattle.std.specs.Prelude.{◌≡◌, ℕ, ◌+◌, List, Ok, Err};
 ghost use Rattle.files.specs.Lines.{items, meant};
 ghost use Rattle.lists.specs.History.{Holds};

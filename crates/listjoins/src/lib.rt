@@ -1,4 +1,6 @@
 // The join by a finished list, said of its patterns alone.
+#![tactic(auto)]
+
 ghost use Rattle.std.specs.Prelude.{◌≡◌, List, length};
 ghost use Rattle.joinlaw.specs.Bridges.{join as join_of};
 ghost use Rattle.joins.specs.Answers.{answer as answer_of, text_after, work_after};

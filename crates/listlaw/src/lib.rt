@@ -1,4 +1,6 @@
 // The list of forbidden patterns as mathematics: definitions in specs/, their laws in proofs/.
+#![tactic(auto)]
+
 ghost use Rattle.listlaw.specs.Standing.{WordsStand};
 
 // The computed definitions say what they are named for.

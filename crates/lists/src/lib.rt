@@ -1,4 +1,6 @@
 // A list of forbidden patterns over two lent tables: it takes patterns one by one, and is finished into an automaton.
+#![tactic(auto)]
+
 mod answering;
 mod builder;
 mod links;

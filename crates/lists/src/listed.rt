@@ -1,12 +1,14 @@
 // The finished list: what it is made of, and what always holds of it.
-ghost use Rattle.std.specs.Prelude.{◌*◌, ◌<◌, ◌≤◌, length};
+ghost use Rattle.std.specs.Prelude.{◌≡◌, ◌*◌, ◌<◌, ◌≤◌, length, ⊤};
 ghost use Rattle.listlaw.specs.Table.{Kept};
 ghost use Rattle.lists.specs.Finished.{stop_at, goes_to};
 
 use crate::record::Record;
+use std::alloc::AllocError;
 use std::marker::PhantomData;
 
 // It stops a string exactly when a pattern that it took occurs in the string. It can be copied, and so serve many users.
+#[derive_where(Copy)]
 pub struct Listed<'a, L> {
     pub(crate) records: &'a [Record],
     pub(crate) words: &'a [u16],
@@ -25,4 +27,12 @@ pub struct Listed<'a, L> {
     ghost built: { Kept used columns (stop_at records.now columns taken) (goes_to words.now taken) memory },
 }
 
-impl<'a, L> Copy for Listed<'a, L> {}
+impl<'a, L> Clone for Listed<'a, L> {
+    ghost is_clone = { λ x y. y ≡ x };
+
+    ghost is_infallible = { λ _. ⊤ };
+
+    fn clone(&self) -> Result<Listed<'a, L>, AllocError> {
+        Ok(*self)
+    }
+}

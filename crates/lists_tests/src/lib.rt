@@ -1,4 +1,6 @@
 // A user of lists whose contract follows from theirs alone, and tests at both ends of each range.
+#![tactic(auto)]
+
 ghost use Rattle.std.specs.Prelude.{◌≡◌, [], length, IfOk, Some, None};
 ghost use Rattle.models.specs.Strings.{Occurs};
 ghost use Rattle.lists.specs.Taking.{cause, refused};

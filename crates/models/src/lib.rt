@@ -1,1 +1,2 @@
 // Alphabets and automata as plain mathematics: definitions in specs/, their laws in proofs/. No code.
+#![tactic(auto)]

@@ -1,4 +1,6 @@
 // Pages: output written byte by byte over the front of a lent slice. What finds no room is left out.
+#![tactic(auto)]
+
 ghost use Rattle.std.specs.Prelude.{◌≡◌, ℕ, List, [], ◌∷◌, ◌++◌, length, replicate, decimal};
 ghost use Rattle.pages.specs.Pages.{Holds, Wrote, labelled as labelled_by, columns as columns_of};
 

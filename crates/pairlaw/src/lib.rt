@@ -1,1 +1,2 @@
 // Two automata side by side as plain mathematics: the pair in specs/, its laws in proofs/. No code.
+#![tactic(auto)]

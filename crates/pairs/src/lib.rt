@@ -1,4 +1,6 @@
 // A pair of automata over one kind of letters: it lets pass exactly what both let pass.
+#![tactic(auto)]
+
 ghost use Rattle.std.specs.Prelude.{◌≡◌, ◌*◌, ◌<◌, ◌≤◌, Ok, Err};
 ghost use Rattle.faults.specs.Causes.{large_pair};
 ghost use Rattle.pairlaw.specs.Pairs.{pair_model, OnlyBoth};
@@ -11,13 +13,11 @@ use letters::Letter;
 // An automaton has at most this many states.
 pub const MOST_STATES: u32 = 4096;
 
-#[derive(Drop)]
+#[derive(Clone, Copy, Drop)]
 pub struct Pair<P, Q> {
     left: P,
     right: Q,
 }
-
-impl<P: Copy, Q: Copy> Copy for Pair<P, Q> {}
 
 impl<P: Automaton + Drop, Q: Automaton<Kind = P::Kind> + Drop> Pair<P, Q> {
     // The two side by side, where the product of their counts of states is at most 4,096.

@@ -1,4 +1,6 @@
 // Rewrites the trace of a station file that is read from standard input. Status 0: the text was written.
+#![tactic(auto)]
+
 use rewrites::{Printed, rewrite_file};
 use std::io;
 use std::io::{ErrorKind, Read, Write};

@@ -1,5 +1,6 @@
 // Station files, and what is printed of each when it is rewritten: texts, every cause that can be met, and both ends of
 // the ranges.
+#![tactic(auto)]
 
 #[cfg(test)]
 mod tests {

@@ -1,4 +1,6 @@
 // Rewriting: a station file's trace is given to a sheet, and what comes of it is printed.
+#![tactic(auto)]
+
 pub mod outcome;
 mod report;
 mod settings;

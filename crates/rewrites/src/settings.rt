@@ -28,7 +28,7 @@ pub(crate) fn rewrite<S: Automaton + Drop>(
 where
     S::Kind: Printable,
     requires { Roomy (sheet-row S.row S.Kind.row) }
-    ensures { left_as result text.new work.new ≡ rewritten S.Kind.Letter.alphabet S.Kind.Printable.parsed (model automaton) k trace.now text.old work.old }
+    ensures { left_as result text.new work.new ≡ rewritten S.Kind.Letter.alphabet S.Kind.Printable.parsed (S.model automaton) k trace.now text.old work.old }
 {
     let mut sheet = Sheet::open(automaton, k)?;
     feed(&mut sheet, trace, text, work)?;
@@ -66,7 +66,7 @@ where
     P::Kind: Printable,
     requires alone { Roomy (sheet-row P.row P.Kind.row) }
     requires paired { Roomy (sheet-row (pair_row P.row (run_row P.Kind.row)) P.Kind.row) }
-    ensures { left_as result text.new work.new ≡ unless_refused (limited (model automaton) P.Kind.Letter.alphabet limit Ok) text.old work.old (λ m. rewritten P.Kind.Letter.alphabet P.Kind.Printable.parsed m k trace.now text.old work.old) }
+    ensures { left_as result text.new work.new ≡ unless_refused (limited (P.model automaton) P.Kind.Letter.alphabet limit Ok) text.old work.old (λ m. rewritten P.Kind.Letter.alphabet P.Kind.Printable.parsed m k trace.now text.old work.old) }
 {
     match limit {
         Some(r) => {

@@ -32,7 +32,7 @@ fn feed_letter<S: Automaton>(
 ) -> Result<(), Fault>
 where
     S::Kind: Printable,
-    ensures fed { fed_as result (contents sheet.new) text.new work.new ≡ fed_letter S.Kind.Letter.alphabet S.Kind.Printable.parsed (model sheet.old.automaton) sheet.old.k place read (contents sheet.old) text.old work.old }
+    ensures fed { fed_as result (contents sheet.new) text.new work.new ≡ fed_letter S.Kind.Letter.alphabet S.Kind.Printable.parsed (S.model sheet.old.automaton) sheet.old.k place read (contents sheet.old) text.old work.old }
     ensures keeps { (sheet.new.k ≡ sheet.old.k) × (sheet.new.automaton ≡ sheet.old.automaton) }
 {
     match read {
@@ -51,7 +51,7 @@ fn feed_byte<S: Automaton>(
 ) -> Result<(), Fault>
 where
     S::Kind: Printable,
-    ensures fed { fed_as result (contents sheet.new) text.new work.new ≡ fed_byte S.Kind.Letter.alphabet S.Kind.Printable.parsed (model sheet.old.automaton) sheet.old.k place byte (contents sheet.old) text.old work.old }
+    ensures fed { fed_as result (contents sheet.new) text.new work.new ≡ fed_byte S.Kind.Letter.alphabet S.Kind.Printable.parsed (S.model sheet.old.automaton) sheet.old.k place byte (contents sheet.old) text.old work.old }
     ensures keeps { (sheet.new.k ≡ sheet.old.k) × (sheet.new.automaton ≡ sheet.old.automaton) }
 {
     if byte == GAP {
@@ -70,7 +70,7 @@ pub fn feed<S: Automaton>(
 ) -> Result<(), Fault>
 where
     S::Kind: Printable,
-    ensures fed { fed_as result (contents sheet.new) text.new work.new ≡ fed S.Kind.Letter.alphabet S.Kind.Printable.parsed (model sheet.old.automaton) sheet.old.k 0 trace.now (contents sheet.old) text.old work.old }
+    ensures fed { fed_as result (contents sheet.new) text.new work.new ≡ fed S.Kind.Letter.alphabet S.Kind.Printable.parsed (S.model sheet.old.automaton) sheet.old.k 0 trace.now (contents sheet.old) text.old work.old }
     ensures keeps { (sheet.new.k ≡ sheet.old.k) × (sheet.new.automaton ≡ sheet.old.automaton) }
 {
     for (place, byte) in trace.iter().enumerate() {

@@ -1,5 +1,7 @@
 // The run automaton: it stops a string where a letter stands more than `limit` times in a row.
-ghost use Rattle.std.specs.Prelude.{◌≡◌, ◌≤◌, Ok, Err};
+#![tactic(auto)]
+
+ghost use Rattle.std.specs.Prelude.{◌≡◌, ◌≤◌, Ok, Err, ⊤};
 ghost use Rattle.faults.specs.Causes.{bad_limit};
 ghost use Rattle.runlaw.specs.Runs.{run_model, OnlyShort};
 ghost use Rattle.runlaw.proofs.Laws.{run-lawful};
@@ -7,12 +9,14 @@ ghost use Rattle.runlaw.proofs.Laws.{run-lawful};
 use automata::Automaton;
 use faults::Fault;
 use letters::Letter;
+use std::alloc::AllocError;
 use std::marker::PhantomData;
 
 // The run limit may be this many equal letters in a row at most.
 pub const LONGEST: u16 = 8;
 
 #[derive(Drop)]
+#[derive_where(Copy)]
 pub struct Run<L> {
     limit: u16,
     kind: PhantomData<L>,
@@ -20,7 +24,15 @@ pub struct Run<L> {
     ghost most: { limit ≤ 8 },
 }
 
-impl<L> Copy for Run<L> {}
+impl<L> Clone for Run<L> {
+    ghost is_clone = { λ x y. y ≡ x };
+
+    ghost is_infallible = { λ _. ⊤ };
+
+    fn clone(&self) -> Result<Run<L>, AllocError> {
+        Ok(*self)
+    }
+}
 
 impl<L: Letter> Run<L> {
     // The automaton with the run limit `limit`, which is 1 to 8.

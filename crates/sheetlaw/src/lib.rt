@@ -1,4 +1,5 @@
 // What a sheet is given and answers, as plain types; its law over every list of calls stands in specs/Law.antt.
+#![tactic(auto)]
 
 // What a sheet is given: a letter of the trace, or a gap where the reading is missing.
 #[derive(Clone, Copy)]

@@ -21,7 +21,7 @@ impl<S: Automaton> Sheet<S> {
     pub fn open(automaton: S, k: u16) -> Result<Sheet<S>, Fault>
     where
         S: Drop,
-        ensures { MatchResult result (λ s. (opening {K = S.Kind} (model automaton) k ≡ Ok (contents s)) × (s.k ≡ k) × (s.automaton ≡ automaton) × ((t : List S.Kind) → Stands S.Kind.Letter.alphabet model t [] s t)) (λ e. opening {K = S.Kind} (model automaton) k ≡ Err e) }
+        ensures { MatchResult result (λ s. (opening {K = S.Kind} (S.model automaton) k ≡ Ok (contents s)) × (s.k ≡ k) × (s.automaton ≡ automaton) × ((t : List S.Kind) → Stands S.Kind.Letter.alphabet S.model t [] s t)) (λ e. opening {K = S.Kind} (S.model automaton) k ≡ Err e) }
     {
         let k = k as usize;
         if k < 2 || k > 12 {
@@ -58,10 +58,10 @@ impl<S: Automaton> Sheet<S> {
         text: &mut [S::Kind],
         words: &mut [u16],
     ) -> Result<Answer, Fault>
-        requires { length words.old ≡ 4 * (model self.old.automaton).count }
-        ensures answers { result ≡ answered S.Kind.Letter.alphabet model self.old letter (length words.old) (length text.old) }
-        ensures leaves { contents self.new ≡ left_in S.Kind.Letter.alphabet model self.old letter (length words.old) (length text.old) }
-        ensures writes { text.new ≡ written_to S.Kind.Letter.alphabet model self.old letter (length words.old) text.old }
+        requires { length words.old ≡ 4 * (S.model self.old.automaton).count }
+        ensures answers { result ≡ answered S.Kind.Letter.alphabet S.model self.old letter (length words.old) (length text.old) }
+        ensures leaves { contents self.new ≡ left_in S.Kind.Letter.alphabet S.model self.old letter (length words.old) (length text.old) }
+        ensures writes { text.new ≡ written_to S.Kind.Letter.alphabet S.model self.old letter (length words.old) text.old }
         ensures keeps { (self.new.k ≡ self.old.k) × (self.new.automaton ≡ self.old.automaton) }
     {
         let n = self.automaton.states() as usize;
@@ -79,10 +79,10 @@ impl<S: Automaton> Sheet<S> {
         text: &mut [S::Kind],
         words: &mut [u16],
     ) -> Result<Answer, Fault>
-        requires { length words.old ≡ 4 * (model self.old.automaton).count }
-        ensures answers { result ≡ answered S.Kind.Letter.alphabet model self.old letter (length words.old) (length text.old) }
-        ensures leaves { contents self.new ≡ left_in S.Kind.Letter.alphabet model self.old letter (length words.old) (length text.old) }
-        ensures writes { text.new ≡ written_to S.Kind.Letter.alphabet model self.old letter (length words.old) text.old }
+        requires { length words.old ≡ 4 * (S.model self.old.automaton).count }
+        ensures answers { result ≡ answered S.Kind.Letter.alphabet S.model self.old letter (length words.old) (length text.old) }
+        ensures leaves { contents self.new ≡ left_in S.Kind.Letter.alphabet S.model self.old letter (length words.old) (length text.old) }
+        ensures writes { text.new ≡ written_to S.Kind.Letter.alphabet S.model self.old letter (length words.old) text.old }
         ensures words { words.new ≡ replicate (length words.old) 0 }
         ensures keeps { (self.new.k ≡ self.old.k) × (self.new.automaton ≡ self.old.automaton) }
     {
@@ -98,12 +98,12 @@ impl<S: Automaton> Sheet<S> {
         text: &mut [S::Kind],
         work: &mut [u16],
     ) -> Result<Answer, Fault>
-        ensures answers { result ≡ answered S.Kind.Letter.alphabet model self.old letter (length work.old) (length text.old) }
-        ensures leaves { contents self.new ≡ left_in S.Kind.Letter.alphabet model self.old letter (length work.old) (length text.old) }
-        ensures writes { text.new ≡ written_to S.Kind.Letter.alphabet model self.old letter (length work.old) text.old }
-        ensures work { work.new ≡ cleared (needs (model self.old.automaton)) work.old }
+        ensures answers { result ≡ answered S.Kind.Letter.alphabet S.model self.old letter (length work.old) (length text.old) }
+        ensures leaves { contents self.new ≡ left_in S.Kind.Letter.alphabet S.model self.old letter (length work.old) (length text.old) }
+        ensures writes { text.new ≡ written_to S.Kind.Letter.alphabet S.model self.old letter (length work.old) text.old }
+        ensures work { work.new ≡ cleared (needs (S.model self.old.automaton)) work.old }
         ensures keeps { (self.new.k ≡ self.old.k) × (self.new.automaton ≡ self.old.automaton) }
-        ensures stands { (t0 : List S.Kind) (h : List (Turn S.Kind)) → Stands S.Kind.Letter.alphabet model t0 h self.old text.old → Stands S.Kind.Letter.alphabet model t0 (given letter work.old result work.new ∷ h) self.new text.new }
+        ensures stands { (t0 : List S.Kind) (h : List (Turn S.Kind)) → Stands S.Kind.Letter.alphabet S.model t0 h self.old text.old → Stands S.Kind.Letter.alphabet S.model t0 (given letter work.old result work.new ∷ h) self.new text.new }
     {
         let needed = 4 * self.automaton.states() as usize;
         if work.len() < needed {
@@ -117,7 +117,7 @@ impl<S: Automaton> Sheet<S> {
         ensures answers { result ≡ pauses (contents self.old) }
         ensures leaves { contents self.new ≡ leaves_gap (contents self.old) }
         ensures keeps { (self.new.k ≡ self.old.k) × (self.new.automaton ≡ self.old.automaton) }
-        ensures stands { (t0 : List S.Kind) (h : List (Turn S.Kind)) (t : List S.Kind) → Stands S.Kind.Letter.alphabet model t0 h self.old t → Stands S.Kind.Letter.alphabet model t0 (paused result ∷ h) self.new t }
+        ensures stands { (t0 : List S.Kind) (h : List (Turn S.Kind)) (t : List S.Kind) → Stands S.Kind.Letter.alphabet S.model t0 h self.old t → Stands S.Kind.Letter.alphabet S.model t0 (paused result ∷ h) self.new t }
     {
         if self.taken >= MOST {
             return Err(Fault::full_sheet());
@@ -132,7 +132,7 @@ impl<S: Automaton> Sheet<S> {
     where
         S: Drop,
         ensures counts { result ≡ close_of (contents self) }
-        ensures stands { (t0 : List S.Kind) (h : List (Turn S.Kind)) (t : List S.Kind) → Stands S.Kind.Letter.alphabet model t0 h self t → result ≡ tally (model self.automaton) self.k h }
+        ensures stands { (t0 : List S.Kind) (h : List (Turn S.Kind)) (t : List S.Kind) → Stands S.Kind.Letter.alphabet S.model t0 h self t → result ≡ tally (S.model self.automaton) self.k h }
     {
         self.counts
     }

@@ -26,10 +26,10 @@ fn put_row<K: Letter>(
     at: usize,
     end: usize,
 )
-    requires fit { Fit alphabet (by parents.now) (by letters.now) (length parents.now) (length window.now) way }
+    requires fit { Fit K.alphabet (by parents.now) (by letters.now) (length parents.now) (length window.now) way }
     requires long { length letters.now ≡ length parents.now }
     requires room { (end ≡ at + added (length window.now) way) × (end ≤ length text.old) }
-    ensures { text.new ≡ write_of at (row (told alphabet (by parents.now) (by letters.now) way) window.now) text.old }
+    ensures { text.new ≡ write_of at (row (told K.alphabet (by parents.now) (by letters.now) way) window.now) text.old }
 {
     write(way, window, parents, letters, &mut text[at..end]);
 }

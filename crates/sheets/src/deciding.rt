@@ -43,8 +43,8 @@ impl<S: Automaton> Sheet<S> {
         letters: &mut [u16],
     ) -> Option<Way>
         requires whole { window.now.held ≡ self.now.k }
-        requires long { (length seen.old ≡ (model self.now.automaton).count) × ((length queue.old ≡ (model self.now.automaton).count) × ((length parents.old ≡ (model self.now.automaton).count) × (length letters.old ≡ (model self.now.automaton).count))) }
-        ensures { RowIs S.Kind.Letter.alphabet (by parents.new) (by letters.new) (model self.now.automaton).count (shown window.now) result (row_to (row_of S.Kind.Letter.alphabet (model self.now.automaton)) (latest self.now.stage) (shown window.now)) }
+        requires long { (length seen.old ≡ (S.model self.now.automaton).count) × ((length queue.old ≡ (S.model self.now.automaton).count) × ((length parents.old ≡ (S.model self.now.automaton).count) × (length letters.old ≡ (S.model self.now.automaton).count))) }
+        ensures { RowIs S.Kind.Letter.alphabet (by parents.new) (by letters.new) (S.model self.now.automaton).count (shown window.now) result (row_to (row_of S.Kind.Letter.alphabet (S.model self.now.automaton)) (latest self.now.stage) (shown window.now)) }
     {
         match self.stage.last() {
             Some(last) => {
@@ -73,8 +73,8 @@ impl<S: Automaton> Sheet<S> {
         parents: &mut [u16],
         letters: &mut [u16],
     ) -> Result<Plan, Fault>
-        requires long { (length seen.old ≡ (model self.now.automaton).count) × ((length queue.old ≡ (model self.now.automaton).count) × ((length parents.old ≡ (model self.now.automaton).count) × (length letters.old ≡ (model self.now.automaton).count))) }
-        ensures { PlanIs S.Kind.Letter.alphabet (by parents.new) (by letters.new) (model self.now.automaton).count self.now.k (window_of self.now.k (contents self.now) letter) self.now.counts.text room result (decide_of (model self.now.automaton) self.now.k (row_of S.Kind.Letter.alphabet (model self.now.automaton)) (needs (model self.now.automaton)) room (contents self.now) letter) }
+        requires long { (length seen.old ≡ (S.model self.now.automaton).count) × ((length queue.old ≡ (S.model self.now.automaton).count) × ((length parents.old ≡ (S.model self.now.automaton).count) × (length letters.old ≡ (S.model self.now.automaton).count))) }
+        ensures { PlanIs S.Kind.Letter.alphabet (by parents.new) (by letters.new) (S.model self.now.automaton).count self.now.k (window_of self.now.k (contents self.now) letter) self.now.counts.text room result (decide_of (S.model self.now.automaton) self.now.k (row_of S.Kind.Letter.alphabet (S.model self.now.automaton)) (needs (S.model self.now.automaton)) room (contents self.now) letter) }
     {
         if self.taken >= MOST {
             return Err(Fault::full_sheet());

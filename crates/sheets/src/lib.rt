@@ -1,4 +1,6 @@
 // Sheets: a trace is rewritten letter by letter into the shortest text that passes and has its kept windows in order.
+#![tactic(auto)]
+
 mod calls;
 mod carrying;
 mod deciding;

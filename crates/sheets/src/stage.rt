@@ -5,6 +5,7 @@ ghost use Rattle.sheets.specs.Stages.{latest, shown_in, kept_size, held_in};
 use crate::window::Window;
 
 // A stage with a kept window holds the last one.
+#[derive_where(Clone, Copy; L: Copy)]
 pub enum Stage<L> {
     // Fewer than k letters run, and no window is kept.
     Opening,
@@ -15,8 +16,6 @@ pub enum Stage<L> {
     // k letters run.
     Going(Window<L>),
 }
-
-impl<L: Copy> Copy for Stage<L> {}
 
 impl<L: Copy> Stage<L> {
     // The last kept window.

@@ -1,7 +1,10 @@
 // A window: up to twelve letters, the latest last.
-ghost use Rattle.std.specs.Prelude.{◌≡◌, ℕ, ◌+◌, ◌<◌, ◌≤◌, List, [], ◌∷◌, ◌++◌, length, take, drop};
+ghost use Rattle.std.specs.Prelude.{◌≡◌, ℕ, ◌+◌, ◌<◌, ◌≤◌, List, [], ◌∷◌, ◌++◌, length, take, drop, ⊤};
+
+use std::alloc::AllocError;
 
 // The first `held` letters are the window; the others are never read.
+#[derive(Copy)]
 pub struct Window<L> {
     pub(crate) letters: [L; 12],
     pub(crate) held: usize,
@@ -9,7 +12,15 @@ pub struct Window<L> {
     ghost fits: { held ≤ 12 },
 }
 
-impl<L: Copy> Copy for Window<L> {}
+impl<L: Copy> Clone for Window<L> {
+    ghost is_clone = { λ x y. y ≡ x };
+
+    ghost is_infallible = { λ _. ⊤ };
+
+    fn clone(&self) -> Result<Window<L>, AllocError> {
+        Ok(*self)
+    }
+}
 
 impl<L: Copy> Window<L> {
     // The empty window; any letter may fill the array.

@@ -1,3 +1,5 @@
 // Tests of the sheet.
+#![tactic(auto)]
+
 #[cfg(test)]
 mod sheet_tests;

@@ -1,4 +1,6 @@
 // Station files: the kind that a file names, its settings, and the order of its lines.
+#![tactic(auto)]
+
 ghost use Rattle.std.specs.Prelude.{◌≡◌, ◌+◌, Some, None, Ok, Err};
 ghost use Rattle.files.specs.Lines.{items, meant, meant_line};
 ghost use Rattle.files.specs.Fields.{read};

@@ -1,4 +1,6 @@
 // Stepping: a station file's trace is given to a sheet, and what every call answers is printed.
+#![tactic(auto)]
+
 mod answers;
 pub mod outcome;
 mod report;

@@ -47,8 +47,8 @@ fn admit<S: Automaton + Drop>(
 where
     S::Kind: Printable,
     requires { Roomy (sheet-row S.row S.Kind.row) }
-    ensures judged { verdict result ≡ admitted (model automaton) k (reading S.Kind.Letter.alphabet S.Kind.Printable.parsed) trace.now lines.old.number (items lines.old.rest.now) }
-    ensures opened { IfOk result (Fresh S.Kind.Letter.alphabet model automaton k) }
+    ensures judged { verdict result ≡ admitted (S.model automaton) k (reading S.Kind.Letter.alphabet S.Kind.Printable.parsed) trace.now lines.old.number (items lines.old.rest.now) }
+    ensures opened { IfOk result (Fresh S.Kind.Letter.alphabet S.model automaton k) }
 {
     let line = lines.number();
     let sheet = at_line(Sheet::open(automaton, k), line)?;
@@ -70,7 +70,7 @@ fn step_under<S: Automaton + Drop>(
 where
     S::Kind: Printable,
     requires { Roomy (sheet-row S.row S.Kind.row) }
-    ensures { Told S.Kind.Letter.alphabet S.Kind.Printable.printed page.old page.new text.old text.new work.old work.new result (concluded heading.kind heading.patterns heading.limit lines.old.number (items lines.old.rest.now) (steps S.Kind.Letter.alphabet text.old work.old (model automaton) heading.window (reading S.Kind.Letter.alphabet S.Kind.Printable.parsed) trace.now)) }
+    ensures { Told S.Kind.Letter.alphabet S.Kind.Printable.printed page.old page.new text.old text.new work.old work.new result (concluded heading.kind heading.patterns heading.limit lines.old.number (items lines.old.rest.now) (steps S.Kind.Letter.alphabet text.old work.old (S.model automaton) heading.window (reading S.Kind.Letter.alphabet S.Kind.Printable.parsed) trace.now)) }
 {
     let states = automaton.states() as usize;
     let memory = automaton.memory() as usize;
@@ -128,7 +128,7 @@ where
     P::Kind: Printable,
     requires alone { Roomy (sheet-row P.row P.Kind.row) }
     requires paired { Roomy (sheet-row (pair_row P.row (run_row P.Kind.row)) P.Kind.row) }
-    ensures { Told P.Kind.Letter.alphabet P.Kind.Printable.printed page.old page.new text.old text.new work.old work.new result (concluded heading.kind heading.patterns heading.limit lines.old.number (items lines.old.rest.now) (limited (model automaton) P.Kind.Letter.alphabet heading.limit (λ m. steps P.Kind.Letter.alphabet text.old work.old m heading.window (reading P.Kind.Letter.alphabet P.Kind.Printable.parsed) trace.now))) }
+    ensures { Told P.Kind.Letter.alphabet P.Kind.Printable.printed page.old page.new text.old text.new work.old work.new result (concluded heading.kind heading.patterns heading.limit lines.old.number (items lines.old.rest.now) (limited (P.model automaton) P.Kind.Letter.alphabet heading.limit (λ m. steps P.Kind.Letter.alphabet text.old work.old m heading.window (reading P.Kind.Letter.alphabet P.Kind.Printable.parsed) trace.now))) }
 {
     match heading.limit {
         Some(r) => match Run::<P::Kind>::new(r) {

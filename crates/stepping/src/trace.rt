@@ -68,11 +68,11 @@ fn step<S: Automaton>(
 ) -> bool
 where
     S::Kind: Printable,
-    ensures page { Wrote page.old page.new (turn_line S.Kind.Letter.alphabet S.Kind.Printable.printed place (call_on S.Kind.Letter.alphabet model sheet.old text.old work.old event)) }
-    ensures taken { result ≡ is_taken (call_on S.Kind.Letter.alphabet model sheet.old text.old work.old event) }
-    ensures work { work.new ≡ left_over (needs (model sheet.old.automaton)) work.old (event ∷ []) }
+    ensures page { Wrote page.old page.new (turn_line S.Kind.Letter.alphabet S.Kind.Printable.printed place (call_on S.Kind.Letter.alphabet S.model sheet.old text.old work.old event)) }
+    ensures taken { result ≡ is_taken (call_on S.Kind.Letter.alphabet S.model sheet.old text.old work.old event) }
+    ensures work { work.new ≡ left_over (needs (S.model sheet.old.automaton)) work.old (event ∷ []) }
     ensures keeps { (sheet.new.k ≡ sheet.old.k) × (sheet.new.automaton ≡ sheet.old.automaton) }
-    ensures stands { (t0 : List S.Kind) (h : List (Turn S.Kind)) → Stands S.Kind.Letter.alphabet model t0 h sheet.old text.old → Stands S.Kind.Letter.alphabet model t0 (call_on S.Kind.Letter.alphabet model sheet.old text.old work.old event ∷ h) sheet.new text.new }
+    ensures stands { (t0 : List S.Kind) (h : List (Turn S.Kind)) → Stands S.Kind.Letter.alphabet S.model t0 h sheet.old text.old → Stands S.Kind.Letter.alphabet S.model t0 (call_on S.Kind.Letter.alphabet S.model sheet.old text.old work.old event ∷ h) sheet.new text.new }
 {
     match event {
         Event::Letter(letter) => {
@@ -105,11 +105,11 @@ pub fn step_through<S: Automaton>(
 ) -> bool
 where
     S::Kind: Printable,
-    ensures page { (t0 : List S.Kind) (h : List (Turn S.Kind)) → Stands S.Kind.Letter.alphabet model t0 h sheet.old text.old → Wrote page.old page.new (step_lines S.Kind.Letter.alphabet S.Kind.Printable.printed (take (length (events (reading S.Kind.Letter.alphabet S.Kind.Printable.parsed) trace.now)) (calls_after S.Kind.Letter.alphabet model sheet.old work.old (events (reading S.Kind.Letter.alphabet S.Kind.Printable.parsed) trace.now) t0 h))) }
-    ensures taken { (t0 : List S.Kind) (h : List (Turn S.Kind)) → Stands S.Kind.Letter.alphabet model t0 h sheet.old text.old → result ≡ all_taken (take (length (events (reading S.Kind.Letter.alphabet S.Kind.Printable.parsed) trace.now)) (calls_after S.Kind.Letter.alphabet model sheet.old work.old (events (reading S.Kind.Letter.alphabet S.Kind.Printable.parsed) trace.now) t0 h)) }
-    ensures work { work.new ≡ left_over (needs (model sheet.old.automaton)) work.old (events (reading S.Kind.Letter.alphabet S.Kind.Printable.parsed) trace.now) }
+    ensures page { (t0 : List S.Kind) (h : List (Turn S.Kind)) → Stands S.Kind.Letter.alphabet S.model t0 h sheet.old text.old → Wrote page.old page.new (step_lines S.Kind.Letter.alphabet S.Kind.Printable.printed (take (length (events (reading S.Kind.Letter.alphabet S.Kind.Printable.parsed) trace.now)) (calls_after S.Kind.Letter.alphabet S.model sheet.old work.old (events (reading S.Kind.Letter.alphabet S.Kind.Printable.parsed) trace.now) t0 h))) }
+    ensures taken { (t0 : List S.Kind) (h : List (Turn S.Kind)) → Stands S.Kind.Letter.alphabet S.model t0 h sheet.old text.old → result ≡ all_taken (take (length (events (reading S.Kind.Letter.alphabet S.Kind.Printable.parsed) trace.now)) (calls_after S.Kind.Letter.alphabet S.model sheet.old work.old (events (reading S.Kind.Letter.alphabet S.Kind.Printable.parsed) trace.now) t0 h)) }
+    ensures work { work.new ≡ left_over (needs (S.model sheet.old.automaton)) work.old (events (reading S.Kind.Letter.alphabet S.Kind.Printable.parsed) trace.now) }
     ensures keeps { (sheet.new.k ≡ sheet.old.k) × (sheet.new.automaton ≡ sheet.old.automaton) }
-    ensures stands { (t0 : List S.Kind) (h : List (Turn S.Kind)) → Stands S.Kind.Letter.alphabet model t0 h sheet.old text.old → Stands S.Kind.Letter.alphabet model t0 (calls_after S.Kind.Letter.alphabet model sheet.old work.old (events (reading S.Kind.Letter.alphabet S.Kind.Printable.parsed) trace.now) t0 h) sheet.new text.new }
+    ensures stands { (t0 : List S.Kind) (h : List (Turn S.Kind)) → Stands S.Kind.Letter.alphabet S.model t0 h sheet.old text.old → Stands S.Kind.Letter.alphabet S.model t0 (calls_after S.Kind.Letter.alphabet S.model sheet.old work.old (events (reading S.Kind.Letter.alphabet S.Kind.Printable.parsed) trace.now) t0 h) sheet.new text.new }
 {
     let mut place = 0;
     let mut all = true;

@@ -1,5 +1,6 @@
 // Station files, and what is printed of each when its trace is followed: every answer of a call, and every cause that can
 // refuse the file or a call.
+#![tactic(auto)]
 
 #[cfg(test)]
 mod tests {

@@ -1,4 +1,6 @@
 // Shows the calls that the trace of a station file makes on a sheet. Status 0: every letter and gap was taken.
+#![tactic(auto)]
+
 use std::io;
 use std::io::{ErrorKind, Read, Write};
 use stepping::{Printed, steps_file};

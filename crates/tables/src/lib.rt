@@ -1,5 +1,7 @@
 // The tables that the programs lend to the library calls, each allocated once. They are long enough for every file that
 // a program takes.
+#![tactic(auto)]
+
 ghost use Rattle.std.specs.Prelude.{◌≡◌, IfOk, vec_len};
 
 use letters::{Flow, Seepage, Trend, Two};

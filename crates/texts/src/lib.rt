@@ -1,4 +1,6 @@
 // Texts: letters read from bytes, and the check of a text that is given as bytes.
+#![tactic(auto)]
+
 ghost use Rattle.std.specs.Prelude.{◌≡◌};
 ghost use Rattle.models.specs.Automaton.{stops};
 ghost use Rattle.texts.specs.Texts.{reading, stray as stray_in, checked, byte_next};
@@ -24,7 +26,7 @@ pub fn stray<L: Printable>(bytes: &[u8]) -> Option<usize>
 fn step_byte<S: Automaton>(automaton: &S, state: u16, byte: u8) -> Option<u16>
 where
     S::Kind: Printable,
-    ensures { result ≡ byte_next (model automaton.now) (reading S.Kind.Letter.alphabet S.Kind.Printable.parsed) state byte }
+    ensures { result ≡ byte_next (S.model automaton.now) (reading S.Kind.Letter.alphabet S.Kind.Printable.parsed) state byte }
 {
     match S::Kind::from_byte(byte) {
         Some(letter) => automaton.step(state, letter),
@@ -36,7 +38,7 @@ where
 fn stop_place<S: Automaton>(automaton: &S, bytes: &[u8]) -> Option<usize>
 where
     S::Kind: Printable,
-    ensures { result ≡ stops (byte_next (model automaton.now) (reading S.Kind.Letter.alphabet S.Kind.Printable.parsed)) (model automaton.now).start bytes.now }
+    ensures { result ≡ stops (byte_next (S.model automaton.now) (reading S.Kind.Letter.alphabet S.Kind.Printable.parsed)) (S.model automaton.now).start bytes.now }
 {
     let mut state = automaton.first();
     for (i, b) in bytes.iter().enumerate() {
@@ -53,7 +55,7 @@ where
 pub fn check_bytes<S: Automaton>(automaton: &S, bytes: &[u8]) -> Result<Option<usize>, Fault>
 where
     S::Kind: Printable,
-    ensures { result ≡ checked (model automaton.now) (reading S.Kind.Letter.alphabet S.Kind.Printable.parsed) bytes.now }
+    ensures { result ≡ checked (S.model automaton.now) (reading S.Kind.Letter.alphabet S.Kind.Printable.parsed) bytes.now }
 {
     match stray::<S::Kind>(bytes) {
         Some(place) => Err(Fault::no_letter(place)),

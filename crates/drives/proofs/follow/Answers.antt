@@ -14,7 +14,7 @@ use Rattle.drives.proofs.follow.Goals.{in-Letter, in-Gap}
 
 pub loop-event-preserved : goal.loop-event-preserved
 loop-event-preserved g c =
-    let A = g.Kind.Letter.alphabet in
+    let A = g.S.Kind.Letter.alphabet in
     let M = g.S.Automaton.model in
     let s0 = c.args.sheet.now in
     let m = M s0.automaton in
@@ -79,7 +79,7 @@ returns g c =
     let es = c.args.events.now in
     let all : take c.loop-event.event-index es ≡ es = take_all c.loop-event.event-index es (omega arith) in
     let inv = c.loop-event.invariant in
-    let A = g.Kind.Letter.alphabet in
+    let A = g.S.Kind.Letter.alphabet in
     let M = g.S.Automaton.model in
     let s = c.args.sheet.now in
     let m = M s.automaton in

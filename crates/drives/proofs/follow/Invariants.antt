@@ -9,7 +9,7 @@ use Rattle.drives.proofs.follow.Given as goal
 
 abbrev pub invariant-loop-event : goal.invariant-loop-event
 invariant-loop-event g l =
-    let A = g.Kind.Letter.alphabet in
+    let A = g.S.Kind.Letter.alphabet in
     let M = g.S.Automaton.model in
     let s = l.initial.sheet in
     let m = M s.automaton in

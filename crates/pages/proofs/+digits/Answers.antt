@@ -3,8 +3,8 @@ use Rattle.std.proofs.lemmas.Fmt.{decimal_digit, decimal_step, length-decimal-le
 use Rattle.std.proofs.lemmas.List.{length_push}
 use Rattle.pages.proofs.+digits.Goals as goal
 
-pub overflow-add-result : goal.overflow-add-result
-overflow-add-result t c = omega (arith, length-decimal-le_succ (c.args.n / 10) (omega arith))
+pub overflow_add-result : goal.overflow_add-result
+overflow_add-result t c = omega (arith, length-decimal-le_succ (c.args.n / 10) (omega arith))
 
 pub returns-then-n-lt10 : goal.returns-then-n-lt10
 returns-then-n-lt10 t c = sym (ap length (decimal_digit _ c.if-n-lt10.true))

@@ -7,8 +7,8 @@ use Rattle.texts.proofs.check_bytes.Goals as goal
 pub returns-in-None : goal.returns-in-None
 returns-in-None g c =
     let m = g.S.Automaton.model c.args.automaton.now in
-    let reads = reading g.Kind.Letter.alphabet g.Kind.Printable.parsed in
+    let reads = reading g.S.Kind.Letter.alphabet g.S.Kind.Printable.parsed in
     let bs = c.args.bytes.now in
     let none : stray reads bs ≡ None = sym c.stray.ensures ∙ c.in-None.is in
-    let place : c.stop-place.result ≡ stopped m (spelled reads bs) = c.stop-place.ensures ∙ stops-spelled reads m m.start bs none in
+    let place : c.stop_place.result ≡ stopped m (spelled reads bs) = c.stop_place.ensures ∙ stops-spelled reads m m.start bs none in
     ap Ok place ∙ sym (ap (λ o. unless_stray o (stopped m (spelled reads bs))) none)

@@ -7,16 +7,16 @@ use Rattle.texts.proofs.stop_place.Goals as goal
 
 pub returns-in-None : goal.returns-in-None
 returns-in-None g c =
-    let stop = sym c.step-byte.ensures ∙ c.in-None.is in
+    let stop = sym c.step_byte.ensures ∙ c.in-None.is in
     sym (stops-here _ _ _ _ _ _ c.loop-i-test.true (get_or_default _ _ 0 _ c.loop-i-test.true) c.loop-i.invariant stop)
 
 pub loop-i-preserved : goal.loop-i-preserved
 loop-i-preserved g c =
-    walk_more _ _ _ _ _ _ c.loop-i-test.true (get_or_default _ _ 0 _ c.loop-i-test.true) c.loop-i.invariant ∙ sym c.step-byte.ensures ∙ c.in-Some.is
+    walk_more _ _ _ _ _ _ c.loop-i-test.true (get_or_default _ _ 0 _ c.loop-i-test.true) c.loop-i.invariant ∙ sym c.step_byte.ensures ∙ c.in-Some.is
 
 pub returns : goal.returns
 returns g c =
     let m = g.S.Automaton.model c.args.automaton.now in
-    let next = byte_next m (reading g.Kind.Letter.alphabet g.Kind.Printable.parsed) in
+    let next = byte_next m (reading g.S.Kind.Letter.alphabet g.S.Kind.Printable.parsed) in
     let all = ap (walk next m.start) (sym (take_all _ _ c.loop-i-test.false)) in
     sym (stops-none next m.start _ c.args.bytes.now (all ∙ c.loop-i.invariant))

@@ -6,10 +6,10 @@ use Rattle.texts.proofs.stray.Goals as goal
 pub returns-in-None : goal.returns-in-None
 returns-in-None g c =
     let reads = reading g.L.Letter.alphabet g.L.Printable.parsed in
-    sym (stray-here reads c.loop-i.i c.args.bytes.now c.loop-i-test.true c.loop-i.invariant (sym c.from-byte.ensures ∙ c.in-None.is))
+    sym (stray-here reads c.loop-i.i c.args.bytes.now c.loop-i-test.true c.loop-i.invariant (sym c.from_byte.ensures ∙ c.in-None.is))
 
 pub loop-i-preserved : goal.loop-i-preserved
-loop-i-preserved g c = below_more _ _ c.loop-i.invariant (ap is_some (sym c.from-byte.ensures ∙ c.in-Some.is))
+loop-i-preserved g c = below_more _ _ c.loop-i.invariant (ap is_some (sym c.from_byte.ensures ∙ c.in-Some.is))
 
 pub returns : goal.returns
 returns g c =

@@ -6,7 +6,7 @@ use Rattle.joinings.proofs.finding.join_by.Goals as goal
 
 pub returns : goal.returns
 returns g c =
-    let A = g.Kind.Letter.alphabet in
+    let A = g.S.Kind.Letter.alphabet in
     let m = g.S.Automaton.model c.args.automaton.now in
     let u = c.args.contexts.left.now in
     let v = c.args.contexts.right.now in

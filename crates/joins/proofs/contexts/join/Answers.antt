@@ -8,7 +8,7 @@ use Rattle.joins.proofs.contexts.join.Goals as goal
 
 pub returns-then-work-needed : goal.returns-then-work-needed
 returns-then-work-needed g c =
-    let A = g.Kind.Letter.alphabet in
+    let A = g.S.Kind.Letter.alphabet in
     let m = g.S.Automaton.model c.args.automaton.now in
     let words = c.args.work.now in
     let states = c.states.ensures in
@@ -18,12 +18,12 @@ returns-then-work-needed g c =
       answer = ap Err (c.short_work.ensures ∙ ap short_work needed) ∙ sym (cond-true (ltb (length words) (4 * m.count)) _ _ (lt-ltb (length words) (4 * m.count) (omega arith)));
       text = refl;
       work = sym (work_short m words _ needed short);
-      least = join-law A g.Kind.Letter.numbered m (g.S.Automaton.lawful c.args.automaton.now) c.args.left.now c.args.right.now;
+      least = join-law A g.S.Kind.Letter.numbered m (g.S.Automaton.lawful c.args.automaton.now) c.args.left.now c.args.right.now;
     }
 
 pub returns : goal.returns
 returns g c =
-    let A = g.Kind.Letter.alphabet in
+    let A = g.S.Kind.Letter.alphabet in
     let m = g.S.Automaton.model c.args.automaton.now in
     let words = c.args.work.now in
     let states = c.states.ensures in
@@ -33,5 +33,5 @@ returns g c =
       answer = c.within.ensures.answer ∙ sym (cond-false (ltb (length words) (4 * m.count)) _ _ (le-ltb (length words) (4 * m.count) (omega arith)));
       text = c.within.ensures.text;
       work = work_zero m words _ _ _ needed long (omega arith) (c.within.ensures.work ∙ ap (λ n. replicate {A = ℕ} n 0) (length-take-le _ words (omega arith) ∙ (let z : 4 * c.states.result - 0 ≡ 4 * c.states.result = omega arith in z)));
-      least = join-law A g.Kind.Letter.numbered m (g.S.Automaton.lawful c.args.automaton.now) c.args.left.now c.args.right.now;
+      least = join-law A g.S.Kind.Letter.numbered m (g.S.Automaton.lawful c.args.automaton.now) c.args.left.now c.args.right.now;
     }

@@ -10,7 +10,7 @@ use Rattle.joins.proofs.rows.append.Goals as goal
 
 pub returns-then-end-text : goal.returns-then-end-text
 returns-then-end-text g c =
-    let A = g.Kind.Letter.alphabet in
+    let A = g.S.Kind.Letter.alphabet in
     let v = c.args.right.now in
     let text = c.args.text.now in
     let p = by c.find.new.parents in
@@ -27,16 +27,16 @@ returns-then-end-text g c =
 
 pub write-requires : goal.write-requires
 write-requires g c =
-    let A = g.Kind.Letter.alphabet in
+    let A = g.S.Kind.Letter.alphabet in
     let m = g.S.Automaton.model c.args.automaton.now in
     let v = c.args.right.now in
     let text = c.args.text.now in
     let states = c.states-n.ensures in
     let work = c.requires.work in
-    let first = c.split-at-mut-seen.ensures.back_len in
-    let second = c.split-at-mut-queue.ensures.back_len in
-    let third = c.split-at-mut-parents.ensures.back_len in
-    let front = c.split-at-mut-parents.ensures.front-len in
+    let first = c.split_at_mut-seen.ensures.back_len in
+    let second = c.split_at_mut-queue.ensures.back_len in
+    let third = c.split_at_mut-parents.ensures.back_len in
+    let front = c.split_at_mut-parents.ensures.front_len in
     let same = c.find.auto in
     let a = same.parents in
     let b = same.letters in
@@ -53,7 +53,7 @@ write-requires g c =
 
 pub returns : goal.returns
 returns g c =
-    let A = g.Kind.Letter.alphabet in
+    let A = g.S.Kind.Letter.alphabet in
     let v = c.args.right.now in
     let text = c.args.text.now in
     let at = c.args.at in

@@ -10,17 +10,17 @@ use Rattle.joins.proofs.Spellings.{all_picked, found-filling, nothing-filling}
 use Rattle.joins.proofs.Traces.{found-traced, numbers-few, length-spelling}
 use Rattle.joins.proofs.rows.find.Goals as goal
 
-pub returns-in-default : goal.returns-in-default
-returns-in-default g c =
-    let A = g.Kind.Letter.alphabet in
+pub returns-in_default : goal.returns-in_default
+returns-in_default g c =
+    let A = g.S.Kind.Letter.alphabet in
     let m = g.S.Automaton.model c.args.automaton.now in
     let u = c.args.left.now in
-    let stop : run m u ≡ None = ap (λ s. walk m.next s u) (sym c.first.ensures) ∙ sym c.in-default.ensures in
+    let stop : run m u ≡ None = ap (λ s. walk m.next s u) (sym c.first.ensures) ∙ sym c.in_default.ensures in
     bridge-stopped A m (letters A) u c.args.right.now c.args.most stop
 
 pub returns-in-Some-overlap : goal.returns-in-Some-overlap
 returns-in-Some-overlap g c =
-    let A = g.Kind.Letter.alphabet in
+    let A = g.S.Kind.Letter.alphabet in
     let m = g.S.Automaton.model c.args.automaton.now in
     let u = c.args.left.now in
     let v = c.args.right.now in
@@ -44,8 +44,8 @@ explore-requires g c =
 
 pub returns-in-Some-explore : goal.returns-in-Some-explore
 returns-in-Some-explore g c =
-    let A = g.Kind.Letter.alphabet in
-    let numbered = g.Kind.Letter.numbered in
+    let A = g.S.Kind.Letter.alphabet in
+    let numbered = g.S.Kind.Letter.numbered in
     let m = g.S.Automaton.model c.args.automaton.now in
     let u = c.args.left.now in
     let v = c.args.right.now in
@@ -62,14 +62,14 @@ returns-in-Some-explore g c =
     let few = numbers-few p l place in
     let deep = c.depth.ensures l in
     let long = length-spelling A.letter p l place traced in (
-      bridge-filling A m (letters A) u v c.args.most c.in-Some.state at (sym c.in-default-overlap.ensures) ∙ ap filled e,
+      bridge-filling A m (letters A) u v c.args.most c.in-Some.state at (sym c.in_default-overlap.ensures) ∙ ap filled e,
       record { within = within; few = omega arith; long = omega arith; traced = traced },
     )
 
 pub returns-in-None : goal.returns-in-None
 returns-in-None g c =
-    let A = g.Kind.Letter.alphabet in
-    let numbered = g.Kind.Letter.numbered in
+    let A = g.S.Kind.Letter.alphabet in
+    let numbered = g.S.Kind.Letter.numbered in
     let m = g.S.Automaton.model c.args.automaton.now in
     let u = c.args.left.now in
     let v = c.args.right.now in
@@ -77,4 +77,4 @@ returns-in-None g c =
     let lawful = g.S.Automaton.lawful c.args.automaton.now in
     let among = walk-stays m lawful u m.start c.in-Some.state lawful.begins at in
     let e = nothing-filling A.number (letters A) A.letter (all_picked A numbered) m numbered.apart (letters_ascend A numbered) lawful v c.in-Some.state among _ _ _ c.in-None.ensures.explored in
-    bridge-filling A m (letters A) u v c.args.most c.in-Some.state at (sym c.in-default-overlap.ensures) ∙ ap filled e
+    bridge-filling A m (letters A) u v c.args.most c.in-Some.state at (sym c.in_default-overlap.ensures) ∙ ap filled e

@@ -5,14 +5,14 @@ use Rattle.joins.specs.Queue.{by}
 use Rattle.joins.specs.Ways.{told, added, Fit}
 use Rattle.joins.proofs.rows.write.Goals as goal
 
-pub copy-from-slice-requires : goal.copy-from-slice-requires
-copy-from-slice-requires g c =
+pub copy_from_slice-requires : goal.copy_from_slice-requires
+copy_from_slice-requires g c =
     let v = c.args.right.now in
     let room = c.requires.room ∙ ap (added (length v)) c.in-Overlap.is in
     room ∙ sym (length-drop c.in-Overlap.shared v) ∙ ap length (sym (take_rest v c.in-Overlap.shared))
 
-pub write-filling-requires : goal.write-filling-requires
-write-filling-requires g c =
+pub write_filling-requires : goal.write_filling-requires
+write_filling-requires g c =
     let v = c.args.right.now in
     record {
       spells = subst (Fit g.K.Letter.alphabet (by c.args.parents.now) (by c.args.letters.now) (length c.args.parents.now) (length v)) c.in-Filling.is c.requires.fit;
@@ -23,9 +23,9 @@ write-filling-requires g c =
 pub returns-in-Overlap : goal.returns-in-Overlap
 returns-in-Overlap g c =
     let v = c.args.right.now in
-    c.copy-from-slice.ensures.after ∙ take_rest v c.in-Overlap.shared ∙ ap (λ w. row (told g.K.Letter.alphabet (by c.args.parents.now) (by c.args.letters.now) w) v) (sym c.in-Overlap.is)
+    c.copy_from_slice.ensures.after ∙ take_rest v c.in-Overlap.shared ∙ ap (λ w. row (told g.K.Letter.alphabet (by c.args.parents.now) (by c.args.letters.now) w) v) (sym c.in-Overlap.is)
 
 pub returns-in-Filling : goal.returns-in-Filling
 returns-in-Filling g c =
     let v = c.args.right.now in
-    c.write-filling.ensures ∙ ap (λ w. row (told g.K.Letter.alphabet (by c.args.parents.now) (by c.args.letters.now) w) v) (sym c.in-Filling.is)
+    c.write_filling.ensures ∙ ap (λ w. row (told g.K.Letter.alphabet (by c.args.parents.now) (by c.args.letters.now) w) v) (sym c.in-Filling.is)

@@ -31,4 +31,4 @@ returns g c =
     let b = length-drop filled out in
     let room = c.requires.room in
     let all : length now ≡ filled + (length out - filled) = ap length now-is ∙ omega arith in
-    both-parts filled (length out - filled) now c.copy-from-slice.new.self z c.args.right.now (now-is ∙ ap (λ w. z ++ w) (sym rest)) c.copy-from-slice.ensures.after (sym deep) (omega arith) all
+    both-parts filled (length out - filled) now c.copy_from_slice.new.self z c.args.right.now (now-is ∙ ap (λ w. z ++ w) (sym rest)) c.copy_from_slice.ensures.after (sym deep) (omega arith) all

@@ -15,8 +15,8 @@ loop-head-init g c =
     exploring_start _ _ _ c.args.start c.args.seen.now c.args.queue.now c.args.parents.now c.args.letters.now
     c.requires.among c.requires.unmarked c.requires.long.0 c.requires.long.1.0 c.requires.long.1.1
 
-pub overflow-add-head : goal.overflow-add-head
-overflow-add-head g c =
+pub overflow_add-head : goal.overflow_add-head
+overflow_add-head g c =
     let few = (g.S.Automaton.lawful c.args.automaton.now).few in
     let x = c.loop-head.invariant in
     let most = x.most in
@@ -27,7 +27,7 @@ pub expand-tail-requires : goal.expand-tail-requires
 expand-tail-requires g c =
     let x = c.loop-head.invariant in
     record {
-      long = (x.long_seen, (x.long_queue, (x.long_parents, x.long-letters)));
+      long = (x.long_seen, (x.long_queue, (x.long_parents, x.long_letters)));
       here = c.loop-head-test.true;
       paused = paused_first _ _ _ _ _ _ _ _ _ _ x;
     }
@@ -37,14 +37,14 @@ loop-head-preserved g c =
     let e = c.expand-tail.ensures in
     let k = c.expand-tail.auto in
     exploring_turn _ _ _ _ _ _ _ _ _ _ c.loop-head.invariant _ _ _ _ _ c.loop-head-test.true
-    (ap is_some (sym c.walk.ensures) ∙ sym c.is-some.ensures ∙ c.if-is-some.false)
+    (ap is_some (sym c.walk.ensures) ∙ sym c.is_some.ensures ∙ c.if-is_some.false)
     e.paused e.kept k.seen k.queue k.parents k.letters
 
-pub returns-then-is-some : goal.returns-then-is-some
-returns-then-is-some g c = record {
+pub returns-then-is_some : goal.returns-then-is_some
+returns-then-is_some g c = record {
   explored =
       exploring_found _ _ _ _ _ _ _ _ _ _ c.loop-head.invariant c.loop-head-test.true
-      (ap is_some (sym c.walk.ensures) ∙ sym c.is-some.ensures ∙ c.if-is-some.true);
+      (ap is_some (sym c.walk.ensures) ∙ sym c.is_some.ensures ∙ c.if-is_some.true);
   within = λ i e. let same : c.loop-head.head ≡ i = cc in let most = c.loop-head.invariant.most in let lt = c.loop-head-test.true in omega arith;
 }
 

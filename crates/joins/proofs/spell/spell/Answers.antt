@@ -2,16 +2,16 @@ use Rattle.std.proofs.Common.{get_or, sym, ⊎_elim, arith}
 use Rattle.std.proofs.lemmas.Bool.{cases_lt}
 use Rattle.joins.proofs.Traces.{spelled-start, spelled-turn, spelled-some, spelled_end, letter-some}
 use Rattle.joins.proofs.spell.spell.Goals as goal
-use Rattle.joins.proofs.spell.spell.Goals.{in-Some, in-default}
+use Rattle.joins.proofs.spell.spell.Goals.{in-Some, in_default}
 
 pub loop-at-init : goal.loop-at-init
 loop-at-init g c = spelled-start _ _ _ c.args.place c.requires.traced c.args.out.now c.requires.room
 
-pub overflow-sub-left : goal.overflow-sub-left
-overflow-sub-left g c = spelled-some _ _ _ c.args.place c.requires.traced c.loop-at.at c.loop-at.left c.loop-at.out c.loop-at.invariant c.loop-at-test.true
+pub overflow_sub-left : goal.overflow_sub-left
+overflow_sub-left g c = spelled-some _ _ _ c.args.place c.requires.traced c.loop-at.at c.loop-at.left c.loop-at.out c.loop-at.invariant c.loop-at-test.true
 
-pub overflow-cast-letters : goal.overflow-cast-letters
-overflow-cast-letters g c =
+pub overflow_cast-letters : goal.overflow_cast-letters
+overflow_cast-letters g c =
     let few = g.K.Letter.numbered.few in
     ⊎_elim
     (λ lt. omega arith)
@@ -27,9 +27,9 @@ bounds-out-left g c =
 pub loop-at-preserved : goal.loop-at-preserved
 loop-at-preserved g c =
     let some = c.loop-at-test.true in
-    elim c.match-from-number.branch [
+    elim c.match-from_number.branch [
       | in-Some w ↦ rw w.out-is (spelled-turn _ _ _ c.args.place c.requires.traced c.loop-at.at c.loop-at.left c.loop-at.out w.in-Some.letter c.loop-at.invariant some (sym w.in-Some.ensures))
-      | in-default w ↦ absurd (letter-some _ _ _ c.args.place c.requires.traced c.loop-at.at some c.loop-at.invariant.within (sym w.in-default.ensures))
+      | in_default w ↦ absurd (letter-some _ _ _ c.args.place c.requires.traced c.loop-at.at some c.loop-at.invariant.within (sym w.in_default.ensures))
     ]
 
 pub returns : goal.returns

@@ -6,10 +6,10 @@ use Rattle.lists.proofs.Spelt.{stray_push, stray-here, spelled_push}
 use Rattle.lists.proofs.reading.read.Goals as goal
 use Rattle.lists.proofs.reading.read.Goals.{then-i-lt-LETTERS, else-i-lt-LETTERS}
 
-pub returns-in-default : goal.returns-in-default
-returns-in-default g c =
+pub returns-in_default : goal.returns-in_default
+returns-in_default g c =
     let reads = reading g.L.Letter.alphabet g.L.Printable.parsed in
-    (c.loop-i.i, (stray-here reads c.args.bytes.now c.loop-i.i c.loop-i-test.true c.loop-i.invariant.1 (sym c.from-byte.ensures ∙ c.in-default.is), c.no_letter.ensures))
+    (c.loop-i.i, (stray-here reads c.args.bytes.now c.loop-i.i c.loop-i-test.true c.loop-i.invariant.1 (sym c.from_byte.ensures ∙ c.in_default.is), c.no_letter.ensures))
 
 pub loop-i-preserved : goal.loop-i-preserved
 loop-i-preserved g c =
@@ -20,7 +20,7 @@ loop-i-preserved g c =
     let bytes = c.args.bytes.now in
     let x = c.in-Some.letter in
     let inv = c.loop-i.invariant in
-    let read : reads (get_or bytes i 0) ≡ _ = sym c.from-byte.ensures ∙ c.in-Some.is in
+    let read : reads (get_or bytes i 0) ≡ _ = sym c.from_byte.ensures ∙ c.in-Some.is in
     let more = take_more bytes i 0 c.loop-i-test.true in
     let clean : stray reads (take (i + 1) bytes) ≡ None = ap (stray reads) more ∙ stray_push reads (take i bytes) (get_or bytes i 0) x inv.1 read in
     let Again : List ℕ → Type 0 = λ v.

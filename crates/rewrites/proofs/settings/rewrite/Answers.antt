@@ -11,12 +11,12 @@ pub returns-in-err-sheet : goal.returns-in-err-sheet
 returns-in-err-sheet g c =
     let p = err_from_is_err_and c.from-residual.result c.from-residual.ensures.1 in
     ap (λ r. left_as r c.args.text.now c.args.work.now) (p.1 ∙ ap Err p.2)
-    ∙ unopened g.Kind.Letter.alphabet g.Kind.Printable.parsed (g.S.Automaton.model c.args.automaton) c.args.k c.args.trace.now c.args.text.now c.args.work.now c.in-err-sheet.field-0.0 c.in-err-sheet.ensures
+    ∙ unopened g.S.Kind.Letter.alphabet g.S.Kind.Printable.parsed (g.S.Automaton.model c.args.automaton) c.args.k c.args.trace.now c.args.text.now c.args.work.now c.in-err-sheet.field-0.0 c.in-err-sheet.ensures
 
 pub returns-in-err-feed : goal.returns-in-err-feed
 returns-in-err-feed g c =
-    let A = g.Kind.Letter.alphabet in
-    let parsed = g.Kind.Printable.parsed in
+    let A = g.S.Kind.Letter.alphabet in
+    let parsed = g.S.Kind.Printable.parsed in
     let m = g.S.Automaton.model c.args.automaton in
     let t = c.feed.new.text in
     let v = c.feed.new.work in
@@ -29,8 +29,8 @@ returns-in-err-feed g c =
 
 pub returns : goal.returns
 returns g c =
-    let A = g.Kind.Letter.alphabet in
-    let parsed = g.Kind.Printable.parsed in
+    let A = g.S.Kind.Letter.alphabet in
+    let parsed = g.S.Kind.Printable.parsed in
     let m = g.S.Automaton.model c.args.automaton in
     let t = c.feed.new.text in
     let v = c.feed.new.work in

@@ -12,7 +12,7 @@ returns-in-err-pair g c =
     let q = g.Q.Automaton.model c.args.right in
     let t = c.args.text.now in
     let v = c.args.work.now in
-    let go = λ (m : Model g.row.P-Kind.Denot). rewritten g.Kind.Letter.alphabet g.Kind.Printable.parsed m c.args.k c.args.trace.now t v in
+    let go = λ (m : Model g.row.P-Kind.Denot). rewritten g.P.Kind.Letter.alphabet g.P.Kind.Printable.parsed m c.args.k c.args.trace.now t v in
     let p = err_from_is_err_and c.from-residual.result c.from-residual.ensures.1 in
     let e = c.in-err-pair.ensures.made in
     ap (λ r. left_as r t v) (p.1 ∙ ap Err p.2)
@@ -24,7 +24,7 @@ returns g c =
     let q = g.Q.Automaton.model c.args.right in
     let t = c.args.text.now in
     let v = c.args.work.now in
-    let go = λ (m : Model g.row.P-Kind.Denot). rewritten g.Kind.Letter.alphabet g.Kind.Printable.parsed m c.args.k c.args.trace.now t v in
+    let go = λ (m : Model g.row.P-Kind.Denot). rewritten g.P.Kind.Letter.alphabet g.P.Kind.Printable.parsed m c.args.k c.args.trace.now t v in
     let e = c.in-ok-pair.ensures.made in
     c.rewrite.ensures
     ∙ ap (λ u. go (pair_model (g.P.Automaton.model u) (g.Q.Automaton.model c.in-ok-pair.pair.right))) e.0

@@ -7,8 +7,8 @@ use Rattle.rewrites.proofs.trace.feed.Goals as goal
 
 pub loop-place-preserved : goal.loop-place-preserved
 loop-place-preserved g c =
-    let A = g.Kind.Letter.alphabet in
-    let parsed = g.Kind.Printable.parsed in
+    let A = g.S.Kind.Letter.alphabet in
+    let parsed = g.S.Kind.Printable.parsed in
     let m = g.S.Automaton.model c.args.sheet.now.automaton in
     let k = c.args.sheet.now.k in
     let bs = c.args.trace.now in
@@ -25,8 +25,8 @@ loop-place-preserved g c =
 
 pub returns-in-err-feed-byte : goal.returns-in-err-feed-byte
 returns-in-err-feed-byte g c =
-    let A = g.Kind.Letter.alphabet in
-    let parsed = g.Kind.Printable.parsed in
+    let A = g.S.Kind.Letter.alphabet in
+    let parsed = g.S.Kind.Printable.parsed in
     let m = g.S.Automaton.model c.args.sheet.now.automaton in
     let k = c.args.sheet.now.k in
     let bs = c.args.trace.now in
@@ -51,7 +51,7 @@ returns g c =
     let now = c.loop-place.invariant in
     record {
       fed =
-          fed-all g.Kind.Letter.alphabet g.Kind.Printable.parsed (g.S.Automaton.model c.args.sheet.now.automaton) c.args.sheet.now.k c.args.trace.now c.loop-place.place (contents c.loop-place.sheet) c.loop-place.text c.loop-place.work (omega (arith, c.loop-place-test.false))
+          fed-all g.S.Kind.Letter.alphabet g.S.Kind.Printable.parsed (g.S.Automaton.model c.args.sheet.now.automaton) c.args.sheet.now.k c.args.trace.now c.loop-place.place (contents c.loop-place.sheet) c.loop-place.text c.loop-place.work (omega (arith, c.loop-place-test.false))
           ∙ now.0;
       keeps = (now.1, now.2);
     }

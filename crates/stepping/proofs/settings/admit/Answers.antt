@@ -13,7 +13,7 @@ use Rattle.stepping.proofs.settings.admit.Goals as goal
 
 pub returns-in-err-sheet : goal.returns-in-err-sheet
 returns-in-err-sheet g c =
-    let reads = reading g.Kind.Letter.alphabet g.Kind.Printable.parsed in
+    let reads = reading g.S.Kind.Letter.alphabet g.S.Kind.Printable.parsed in
     let bs = c.args.trace.now in
     let lines = c.args.lines.now in
     let z = unless_stray (stray (event reads) bs) tt in
@@ -23,12 +23,12 @@ returns-in-err-sheet g c =
     let p = err_from_is_err_and c.from-residual.result c.from-residual.ensures.1 in
     record {
       judged = ap verdict (p.1 ∙ ap Err p.2) ∙ sym (ap (λ a. and_then a (λ _. and_then b (λ _. y))) c.in-err-sheet.was) ∙ whole;
-      opened = IfOk-from_err c.from-residual.result (Fresh g.Kind.Letter.alphabet g.S.Automaton.model c.args.automaton c.args.k) c.from-residual.ensures.0;
+      opened = IfOk-from_err c.from-residual.result (Fresh g.S.Kind.Letter.alphabet g.S.Automaton.model c.args.automaton c.args.k) c.from-residual.ensures.0;
     }
 
 pub returns-in-err-at-line : goal.returns-in-err-at-line
 returns-in-err-at-line g c =
-    let reads = reading g.Kind.Letter.alphabet g.Kind.Printable.parsed in
+    let reads = reading g.S.Kind.Letter.alphabet g.S.Kind.Printable.parsed in
     let bs = c.args.trace.now in
     let lines = c.args.lines.now in
     let y = ended (lines.number + 1) (items lines.rest.now) in
@@ -40,12 +40,12 @@ returns-in-err-at-line g c =
           ∙ sym (ap (λ b. and_then b (λ _. y)) c.in-err-at-line.was)
           ∙ sym (ap (λ a. and_then a (λ _. and_then c.at-line-2.result (λ _. y))) c.in-ok-sheet.was)
           ∙ whole;
-      opened = IfOk-from_err c.from-residual-in-err-at-line.result (Fresh g.Kind.Letter.alphabet g.S.Automaton.model c.args.automaton c.args.k) c.from-residual-in-err-at-line.ensures.0;
+      opened = IfOk-from_err c.from-residual-in-err-at-line.result (Fresh g.S.Kind.Letter.alphabet g.S.Automaton.model c.args.automaton c.args.k) c.from-residual-in-err-at-line.ensures.0;
     }
 
 pub returns-in-err-tail : goal.returns-in-err-tail
 returns-in-err-tail g c =
-    let reads = reading g.Kind.Letter.alphabet g.Kind.Printable.parsed in
+    let reads = reading g.S.Kind.Letter.alphabet g.S.Kind.Printable.parsed in
     let bs = c.args.trace.now in
     let lines = c.args.lines.now in
     let whole = admitted_is (g.S.Automaton.model c.args.automaton) c.args.k reads bs lines.number (items lines.rest.now) c.open.result contents _ (λ s h. h.0) c.open.ensures c.number-line.result c.number-line.ensures c.at_line.result c.at_line.ensures c.check-trace.result c.check-trace.ensures c.at-line-2.result c.at-line-2.ensures c.tail.result c.tail.ensures.answer in
@@ -57,12 +57,12 @@ returns-in-err-tail g c =
           ∙ sym (ap (λ b. and_then b (λ _. c.tail.result)) c.in-ok-at-line.was)
           ∙ sym (ap (λ a. and_then a (λ _. and_then c.at-line-2.result (λ _. c.tail.result))) c.in-ok-sheet.was)
           ∙ whole;
-      opened = IfOk-from_err c.from-residual-in-err-tail.result (Fresh g.Kind.Letter.alphabet g.S.Automaton.model c.args.automaton c.args.k) c.from-residual-in-err-tail.ensures.0;
+      opened = IfOk-from_err c.from-residual-in-err-tail.result (Fresh g.S.Kind.Letter.alphabet g.S.Automaton.model c.args.automaton c.args.k) c.from-residual-in-err-tail.ensures.0;
     }
 
 pub returns : goal.returns
 returns g c =
-    let reads = reading g.Kind.Letter.alphabet g.Kind.Printable.parsed in
+    let reads = reading g.S.Kind.Letter.alphabet g.S.Kind.Printable.parsed in
     let bs = c.args.trace.now in
     let lines = c.args.lines.now in
     let whole = admitted_is (g.S.Automaton.model c.args.automaton) c.args.k reads bs lines.number (items lines.rest.now) c.open.result contents _ (λ s h. h.0) c.open.ensures c.number-line.result c.number-line.ensures c.at_line.result c.at_line.ensures c.check-trace.result c.check-trace.ensures c.at-line-2.result c.at-line-2.ensures c.tail.result c.tail.ensures.answer in

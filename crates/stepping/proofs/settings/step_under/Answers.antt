@@ -9,9 +9,9 @@ use Rattle.stepping.proofs.settings.step_under.Goals as goal
 
 pub returns-in-Ok : goal.returns-in-Ok
 returns-in-Ok g c =
-    let A = g.Kind.Letter.alphabet in
+    let A = g.S.Kind.Letter.alphabet in
     let M = g.S.Automaton.model in
-    let reads = reading A g.Kind.Printable.parsed in
+    let reads = reading A g.S.Kind.Printable.parsed in
     let head = c.args.heading in
     let bs = c.args.trace.now in
     let lines = c.args.lines.now in
@@ -23,7 +23,7 @@ returns-in-Ok g c =
     let through = c.step-through-all.ensures in
     let last = c.step-through-all.new in
     let fresh = opened.2 t in
-    told-followed A g.Kind.Printable.printed M c.args.automaton head.window t w (events reads bs) s opened.1 opened.0 last.sheet last.text through.keeps.0 through.keeps.1 (through.stands t [] fresh)
+    told-followed A g.S.Kind.Printable.printed M c.args.automaton head.window t w (events reads bs) s opened.1 opened.0 last.sheet last.text through.keeps.0 through.keeps.1 (through.stands t [] fresh)
     head.kind head.patterns head.limit (length bs) c.states-states.result c.memory-memory.result c.args.page.now c.show-file.new.page c.show-settings.new.page last.page c.show-end.new.page last.work c.step-through-all.result c.close.result
     c.show-file.ensures c.states-states.ensures c.memory-memory.ensures c.show-settings.ensures (through.page t [] fresh) (through.taken t [] fresh) through.work (c.close.ensures.stands t _ last.text (through.stands t [] fresh)) c.show-end.ensures
     (concluded head.kind head.patterns head.limit lines.number (items lines.rest.now) (steps A t w m head.window reads bs))
@@ -31,14 +31,14 @@ returns-in-Ok g c =
 
 pub returns-in-Err : goal.returns-in-Err
 returns-in-Err g c =
-    let A = g.Kind.Letter.alphabet in
-    let reads = reading A g.Kind.Printable.parsed in
+    let A = g.S.Kind.Letter.alphabet in
+    let reads = reading A g.S.Kind.Printable.parsed in
     let head = c.args.heading in
     let bs = c.args.trace.now in
     let lines = c.args.lines.now in
     let t = c.args.text.now in
     let w = c.args.work.now in
     let m = g.S.Automaton.model c.args.automaton in
-    told-refused A g.Kind.Printable.printed c.args.page.now c.show-refusal.new.page t w c.show-refusal.result c.show-refusal.ensures.answer c.in-Err.refusal c.show-refusal.ensures.page
+    told-refused A g.S.Kind.Printable.printed c.args.page.now c.show-refusal.new.page t w c.show-refusal.result c.show-refusal.ensures.answer c.in-Err.refusal c.show-refusal.ensures.page
     (concluded head.kind head.patterns head.limit lines.number (items lines.rest.now) (steps A t w m head.window reads bs))
     (concluded_err A head.kind head.patterns head.limit lines.number (items lines.rest.now) t w m head.window reads bs c.in-Err.refusal c.in-Err.ensures.judged)

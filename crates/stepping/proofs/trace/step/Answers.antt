@@ -10,7 +10,7 @@ use Rattle.stepping.proofs.trace.step.Goals as goal
 
 pub returns-in-Letter : goal.returns-in-Letter
 returns-in-Letter g c =
-    let A = g.Kind.Letter.alphabet in
+    let A = g.S.Kind.Letter.alphabet in
     let M = g.S.Automaton.model in
     let s = c.args.sheet.now in
     let work = c.args.work.now in
@@ -18,7 +18,7 @@ returns-in-Letter g c =
     let last = c.letter-answer.new in
     let same = letter-call A M s c.args.text.now work c.args.event c.in-Letter.letter c.letter-answer.result last.work c.in-Letter.is done.answers done.work in
     record {
-      page = wrote_is _ (ap (λ b. labelled [] c.args.place (32 ∷ []) ++ (b ∷ letter_part c.letter-answer.result)) c.byte.ensures ∙ ap (turn_line A g.Kind.Printable.printed c.args.place) same) c.show-letter.ensures.page;
+      page = wrote_is _ (ap (λ b. labelled [] c.args.place (32 ∷ []) ++ (b ∷ letter_part c.letter-answer.result)) c.byte.ensures ∙ ap (turn_line A g.S.Kind.Printable.printed c.args.place) same) c.show-letter.ensures.page;
       taken = c.show-letter.ensures.taken ∙ ap is_taken same;
       work = done.work ∙ sym (ap (λ e. left_over (needs (M s.automaton)) work (e ∷ [])) c.in-Letter.is);
       keeps = done.keeps;
@@ -27,7 +27,7 @@ returns-in-Letter g c =
 
 pub returns-in-Gap : goal.returns-in-Gap
 returns-in-Gap g c =
-    let A = g.Kind.Letter.alphabet in
+    let A = g.S.Kind.Letter.alphabet in
     let M = g.S.Automaton.model in
     let s = c.args.sheet.now in
     let work = c.args.work.now in
@@ -35,7 +35,7 @@ returns-in-Gap g c =
     let last = c.gap-answer.new in
     let same = gap-call A M s c.args.text.now work c.args.event c.gap-answer.result c.in-Gap.is done.answers in
     record {
-      page = wrote_is _ (ap (turn_line A g.Kind.Printable.printed c.args.place) same) c.show-gap.ensures.page;
+      page = wrote_is _ (ap (turn_line A g.S.Kind.Printable.printed c.args.place) same) c.show-gap.ensures.page;
       taken = c.show-gap.ensures.taken ∙ ap is_taken same;
       work = sym (ap (λ e. left_over (needs (M s.automaton)) work (e ∷ [])) c.in-Gap.is);
       keeps = done.keeps;

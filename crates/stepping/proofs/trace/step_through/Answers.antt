@@ -8,14 +8,14 @@ use Rattle.stepping.proofs.trace.step_through.Goals.{in-Some, in-default}
 
 pub loop-byte-init : goal.loop-byte-init
 loop-byte-init g c =
-    (past-none g.Kind.Letter.alphabet g.Kind.Printable.printed g.S.Automaton.model c.args.sheet.now c.args.text.now c.args.work.now c.args.page.now, omega arith)
+    (past-none g.S.Kind.Letter.alphabet g.S.Kind.Printable.printed g.S.Automaton.model c.args.sheet.now c.args.text.now c.args.work.now c.args.page.now, omega arith)
 
 pub loop-byte-preserved : goal.loop-byte-preserved
 loop-byte-preserved g c =
-    let A = g.Kind.Letter.alphabet in
-    let printed = g.Kind.Printable.printed in
+    let A = g.S.Kind.Letter.alphabet in
+    let printed = g.S.Kind.Printable.printed in
     let M = g.S.Automaton.model in
-    let reads = reading A g.Kind.Printable.parsed in
+    let reads = reading A g.S.Kind.Printable.parsed in
     let bs = c.args.trace.now in
     let s0 = c.args.sheet.now in
     let t0 = c.args.text.now in
@@ -41,12 +41,12 @@ loop-byte-preserved g c =
 
 pub returns : goal.returns
 returns g c =
-    let A = g.Kind.Letter.alphabet in
-    let reads = reading A g.Kind.Printable.parsed in
+    let A = g.S.Kind.Letter.alphabet in
+    let reads = reading A g.S.Kind.Printable.parsed in
     let bs = c.args.trace.now in
     let l = c.loop-byte in
     let all : take l.byte-index bs ≡ bs = take_all l.byte-index bs c.loop-byte-test.false in
-    let past = past-at A g.Kind.Printable.printed g.S.Automaton.model c.args.sheet.now c.args.text.now c.args.work.now c.args.page.now (ap (events reads) (sym all)) refl refl refl refl refl refl l.invariant.0 in
+    let past = past-at A g.S.Kind.Printable.printed g.S.Automaton.model c.args.sheet.now c.args.text.now c.args.work.now c.args.page.now (ap (events reads) (sym all)) refl refl refl refl refl refl l.invariant.0 in
     record {
       page = λ t0 h before. (past.stands t0 h before).lines;
       taken = λ t0 h before. (past.stands t0 h before).taken;

@@ -15,17 +15,17 @@ returns-then-s-eq0 c =
 pub returns : goal.returns
 returns c =
     let s = c.args.self.now.rest.now in
-    let n = c.line-len-n.result in
+    let n = c.line_len-n.result in
     let z : n - 0 ≡ n = omega arith in
     elim c.if-n-s.branch [
       | then-n-s w ↦
           let h : c.if-n-s.self.now ≡ drop (n + 1) s = ap (λ x. x.now) w.self-is ∙ take_rest s (n + 1) in
-          let e = lines_cut n s w.if-n-s.true c.line-len-n.ensures.before (c.line-len-n.ensures.found w.if-n-s.true) in
+          let e = lines_cut n s w.if-n-s.true c.line_len-n.ensures.before (c.line_len-n.ensures.found w.if-n-s.true) in
           record { lines = simp (z, h) e; shorter = omega (arith, ap length h, length-drop (n + 1) s, w.if-n-s.true); number = search rules }
       | else-n-s w ↦
           let all : length s ≤ n = w.if-n-s.false in
           let t : take n s ≡ s = take_all n s all in
           let h : c.if-n-s.self.now ≡ [] = (ap (λ x. x.now) w.self-is ∙ take_rest s n) ∙ drop_all n s all in
-          let e = lines-whole s (omega arith) (λ k l. c.line-len-n.ensures.before k (omega arith)) in
+          let e = lines-whole s (omega arith) (λ k l. c.line_len-n.ensures.before k (omega arith)) in
           record { lines = simp (z, t, h) e; shorter = simp h (omega arith); number = search rules }
     ]

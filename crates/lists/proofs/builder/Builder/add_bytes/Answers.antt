@@ -10,7 +10,7 @@ returns g c =
     let A = g.L.Letter.alphabet in
     let reads = reading A g.L.Printable.parsed in
     let bytes = c.args.bytes.now in
-    let r = c.in-ok-word.ensures in
+    let r = c.in_ok-word.ensures in
     let p = spelled reads bytes in
     let long = length-spelled reads bytes r.0 in
     record {

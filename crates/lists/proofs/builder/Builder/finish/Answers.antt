@@ -8,8 +8,14 @@ use Rattle.lists.specs.Finished.{stop_at, goes_to, listed_model}
 use Rattle.lists.proofs.Finishing.{empty_right, some-longest, finished_right, count_held, empty_means, finished_means}
 use Rattle.lists.proofs.builder.Builder.finish.Goals as goal
 
-pub invariant-of-result : goal.invariant-of-result
-invariant-of-result g c = (omega arith, (omega arith, (λ h. absurd (omega arith), (λ h. absurd (omega arith), (∣ ([], (empty_right c.args.self.records.now c.args.self.words.now, refl)) ∣₁, tt)))))
+pub invariant_of-result : goal.invariant_of-result
+invariant_of-result g c = record {
+  few = omega arith;
+  narrow = omega arith;
+  deep = λ h. absurd (omega arith);
+  wide = λ h. absurd (omega arith);
+  built = ∣ ([], (empty_right c.args.self.records.now c.args.self.words.now, refl)) ∣₁;
+}
 
 pub returns-then-taken-eq0 : goal.returns-then-taken-eq0
 returns-then-taken-eq0 g c =
@@ -27,11 +33,11 @@ complete-requires g c =
       small = b.small;
     }
 
-pub overflow-sub-result : goal.overflow-sub-result
-overflow-sub-result g c = let b = c.args.self in omega (arith, some-longest b.records.now b.used b.taken b.longest b.held (omega arith))
+pub overflow_sub-result : goal.overflow_sub-result
+overflow_sub-result g c = let b = c.args.self in omega (arith, some-longest b.records.now b.used b.taken b.longest b.held (omega arith))
 
-pub invariant-of-result-2 : goal.invariant-of-result-2
-invariant-of-result-2 g c =
+pub invariant_of-result-2 : goal.invariant_of-result-2
+invariant_of-result-2 g c =
     let b = c.args.self in
     let ns = c.complete.new.records in
     let words = c.complete.new.words in
@@ -39,19 +45,14 @@ invariant-of-result-2 g c =
     let some : 1 ≤ b.taken = omega arith in
     let right : (ps : List Word) → Lists b.records.now b.used b.taken b.longest ps → Right ps b.used c.columns-columns.result (stop_at ns c.columns-columns.result b.taken) (goes_to words b.taken) = λ ps l.
     subst (λ (n : ℕ). Right ps b.used n (stop_at ns n b.taken) (goes_to words b.taken)) (sym cols)
-    (finished_right b.records.now ns words b.used b.taken b.longest some (b.fits some) (b.some, b.few, b.below, b.deep, b.apart) c.complete.ensures.names c.complete.ensures.shape c.complete.ensures.ends ps l) in (
-      b.few,
-      (
-        omega (arith, cols),
-        (
-          (λ h. omega (arith, b.fits some, c.complete.auto.records)),
-          (
-            (λ h. omega (arith, cols, div-add-mod' (length words) 512)),
-            (∥∥₁_map b.held (λ h. (h.0, (right h.0 h.1, ap (λ (n : ℕ). n - 1) h.1.extent))), tt),
-          ),
-        ),
-      ),
-    )
+    (finished_right b.records.now ns words b.used b.taken b.longest some (b.fits some) (b.some, b.few, b.below, b.deep, b.apart) c.complete.ensures.names c.complete.ensures.shape c.complete.ensures.ends ps l) in
+    record {
+      few = b.few;
+      narrow = omega (arith, cols);
+      deep = λ h. omega (arith, b.fits some, c.complete.auto.records);
+      wide = λ h. omega (arith, cols, div-add-mod' (length words) 512);
+      built = ∥∥₁_map b.held (λ h. (h.0, (right h.0 h.1, ap (λ (n : ℕ). n - 1) h.1.extent)));
+    }
 
 pub returns : goal.returns
 returns g c =

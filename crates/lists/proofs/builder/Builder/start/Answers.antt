@@ -14,10 +14,20 @@ bare g c long = elim c.if-records-ge-STATES.branch [
   | else-records-ge-STATES w ↦ absurd (omega (arith, w.if-records-ge-STATES.false, c.if-records-ge-STATES.auto.records))
 ]
 
-pub invariant-of-result : goal.invariant-of-result
-invariant-of-result g c =
+pub invariant_of-result : goal.invariant_of-result
+invariant_of-result g c =
     let none = lists-none c.if-records-ge-STATES.records (bare g c) in
-    (omega arith, (omega arith, (λ i pos h. absurd (omega arith), (λ i pos h. absurd (omega arith), (places_one c.if-records-ge-STATES.records, (λ h. absurd (omega arith), (λ i pos h. absurd (omega arith), (∣ ([], none) ∣₁, (omega arith, tt)))))))))
+    record {
+      some = omega arith;
+      few = omega arith;
+      below = λ i pos h. absurd (omega arith);
+      deep = λ i pos h. absurd (omega arith);
+      apart = places_one c.if-records-ge-STATES.records;
+      fits = λ h. absurd (omega arith);
+      small = λ i pos h. absurd (omega arith);
+      held = ∣ ([], none) ∣₁;
+      brief = omega arith;
+    }
 
 pub returns : goal.returns
 returns g c = record { deep = c.if-records-ge-STATES.auto.records; broad = refl; lists = lists-none c.if-records-ge-STATES.records (bare g (goal.at.returns g c).Joined-records-ge-STATES); wide = λ h. absurd (omega arith) }

@@ -21,13 +21,23 @@ new-trie g c =
     subst (λ (l : List Record). Trie l c.enter-under.result.1) (sym c.mark.ensures)
     (marked-trie c.args.self.now.records.now c.enter-under.new.records c.args.self.now.used c.args.word.now c.enter-under.result.0 c.enter-under.result.1 c.requires.word.0 (fits g c) (trie_of g c) (within g c) c.enter-under.ensures)
 
-pub invariant-of-self : goal.invariant-of-self
-invariant-of-self g c =
+pub invariant_of-self : goal.invariant_of-self
+invariant_of-self g c =
     let t = new-trie g c in
     let small : Under (columns c.args.self.now.words.now) c.mark.new.records c.enter-under.result.1 =
     subst (λ (l : List Record). Under (columns c.args.self.now.words.now) l c.enter-under.result.1) (sym c.mark.ensures)
     (marked-under c.args.self.now.records.now c.enter-under.new.records c.args.self.now.used c.args.word.now c.enter-under.result.0 c.enter-under.result.1 c.requires.word.0 (fits g c) (trie_of g c) (within g c) c.enter-under.ensures (columns c.args.self.now.words.now) c.args.self.now.small c.requires.letters) in
-    (t.0, (t.1, (t.2, (t.3, (t.4, (λ h. omega (arith, c.requires.room.0, c.enter-under.auto.records, c.mark.auto.records), (small, (∥∥₁_map c.args.self.now.held (λ b. (b.0 ++ (c.args.word.now ∷ []), lists-taken c.args.self.now.records.now c.enter-under.new.records c.args.self.now.used c.args.word.now c.enter-under.result.0 c.enter-under.result.1 c.requires.word.0 (fits g c) (trie_of g c) (within g c) c.enter-under.ensures c.args.self.now.taken c.args.self.now.longest b.0 b.1 (sym c.enter-under.auto.records) c.mark.new.records c.max.result c.mark.ensures c.max.ensures)), (omega (arith, c.max.ensures, c.args.self.now.brief), tt)))))))))
+    record {
+      some = t.0;
+      few = t.1;
+      below = t.2;
+      deep = t.3;
+      apart = t.4;
+      fits = λ h. omega (arith, c.requires.room.0, c.enter-under.auto.records, c.mark.auto.records);
+      small = small;
+      held = ∥∥₁_map c.args.self.now.held (λ b. (b.0 ++ (c.args.word.now ∷ []), lists-taken c.args.self.now.records.now c.enter-under.new.records c.args.self.now.used c.args.word.now c.enter-under.result.0 c.enter-under.result.1 c.requires.word.0 (fits g c) (trie_of g c) (within g c) c.enter-under.ensures c.args.self.now.taken c.args.self.now.longest b.0 b.1 (sym c.enter-under.auto.records) c.mark.new.records c.max.result c.mark.ensures c.max.ensures));
+      brief = omega (arith, c.max.ensures, c.args.self.now.brief);
+    }
 
 pub returns : goal.returns
 returns g c =

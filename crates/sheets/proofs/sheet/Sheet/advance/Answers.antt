@@ -3,40 +3,40 @@ use Rattle.sheets.specs.Stages.{full}
 use Rattle.sheets.proofs.Planning.{never_both}
 use Rattle.sheets.proofs.sheet.Sheet.advance.Goals as goal
 
-pub invariant-of-self : goal.invariant-of-self
-invariant-of-self g c =
+pub invariant_of-self : goal.invariant_of-self
+invariant_of-self g c =
     let s = c.args.self.now in
     let few = c.requires.few in
     (s.some, (s.most, (omega arith, (s.within, (s.all, (s.fewer, (s.kept, (omega arith, omega arith))))))))
 
-pub invariant-of-self-in-Letter·-this : goal.invariant-of-self-in-Letter·-this
-invariant-of-self-in-Letter·-this g c =
+pub invariant_of-self-in-Letter·-this : goal.invariant_of-self-in-Letter·-this
+invariant_of-self-in-Letter·-this g c =
     let s = c.args.self.now in
     let few = c.requires.few in
     (s.some, (s.most, (omega arith, (s.within, (s.all, (s.fewer, (s.kept, (omega arith, omega arith))))))))
 
-pub invariant-of-self-in-Letter·-this-2 : goal.invariant-of-self-in-Letter·-this-2
-invariant-of-self-in-Letter·-this-2 g c =
+pub invariant_of-self-in-Letter·-this-2 : goal.invariant_of-self-in-Letter·-this-2
+invariant_of-self-in-Letter·-this-2 g c =
     let s = c.args.self.now in
     let few = c.requires.few in
     (s.some, (s.most, (omega arith, (s.within, (s.all, (s.fewer, (s.kept, (omega arith, omega arith))))))))
 
-pub invariant-of-self-in-Letter·-this-3 : goal.invariant-of-self-in-Letter·-this-3
-invariant-of-self-in-Letter·-this-3 g c =
+pub invariant_of-self-in-Letter·-this-3 : goal.invariant_of-self-in-Letter·-this-3
+invariant_of-self-in-Letter·-this-3 g c =
     let s = c.args.self.now in
     let few = c.requires.few in
     (s.some, (s.most, (omega arith, (s.within, (s.all, (s.fewer, (s.kept, (omega arith, omega arith))))))))
 
-pub invariant-of-self-in-Seeking-Letter : goal.invariant-of-self-in-Seeking-Letter
-invariant-of-self-in-Seeking-Letter g c =
+pub invariant_of-self-in-Seeking-Letter : goal.invariant_of-self-in-Seeking-Letter
+invariant_of-self-in-Seeking-Letter g c =
     let s = c.args.self.now in
     let few = c.requires.few in
     let now = c.window-window-in-Seeking-Letter.ensures in
     let whole : full s.stage ≡ true = ap full c.in-Seeking-Letter.is-0 in
     (s.some, (s.most, (omega arith, (now.held.0, (now.whole, ((λ h. absurd (never_both (full s.stage) whole h)), (s.kept, (omega arith, omega arith))))))))
 
-pub invariant-of-self-in-Going-Letter : goal.invariant-of-self-in-Going-Letter
-invariant-of-self-in-Going-Letter g c =
+pub invariant_of-self-in-Going-Letter : goal.invariant_of-self-in-Going-Letter
+invariant_of-self-in-Going-Letter g c =
     let s = c.args.self.now in
     let few = c.requires.few in
     let now = c.window-window-in-Going-Letter.ensures in

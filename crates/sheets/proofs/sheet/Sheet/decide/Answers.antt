@@ -11,7 +11,7 @@ use Rattle.sheets.proofs.sheet.Sheet.decide.Goals as goal
 
 pub returns-then-window-self : goal.returns-then-window-self
 returns-then-window-self g c =
-    let A = g.Kind.Letter.alphabet in
+    let A = g.S.Kind.Letter.alphabet in
     let s = c.args.self.now in
     let m = g.S.Automaton.model s.automaton in
     let v = shown c.window-window.result in
@@ -20,7 +20,7 @@ returns-then-window-self g c =
 
 pub added-appended-requires : goal.added-appended-requires
 added-appended-requires g c =
-    let A = g.Kind.Letter.alphabet in
+    let A = g.S.Kind.Letter.alphabet in
     let s = c.args.self.now in
     let m = g.S.Automaton.model s.automaton in
     let v = shown c.window-window.result in
@@ -28,42 +28,42 @@ added-appended-requires g c =
     let few = (g.S.Automaton.lawful s.automaton).few in
     let fits = c.window-window.result.fits in
     subst (λ i. Short i c.in-Some.way) long
-    (fit_short A (by c.way-to.new.parents) (by c.way-to.new.letters) m.count v c.in-Some.way c.in-Some.ensures.1 (omega arith))
+    (fit_short A (by c.way_to.new.parents) (by c.way_to.new.letters) m.count v c.in-Some.way c.in-Some.ensures.1 (omega arith))
 
 pub returns-then-end-room : goal.returns-then-end-room
 returns-then-end-room g c =
-    let A = g.Kind.Letter.alphabet in
+    let A = g.S.Kind.Letter.alphabet in
     let s = c.args.self.now in
     let m = g.S.Automaton.model s.automaton in
     let v = shown c.window-window.result in
-    let p = by c.way-to.new.parents in
-    let l = by c.way-to.new.letters in
+    let p = by c.way_to.new.parents in
+    let l = by c.way_to.new.letters in
     let long = length-shown c.window-window.result in
     let whole : length v ≡ s.k = omega (arith, c.window-window.ensures.held.0, c.if-window-self.false) in
     let walked : c.walk.result ≡ run m v = c.walk.ensures ∙ ap (λ q. walk m.next q c.letters.result.now) c.first.ensures ∙ ap (run m) c.letters.ensures in
-    let passing : passes m v ≡ true = ap is_some (sym walked) ∙ c.if-is-none.ensures in
+    let passing : passes m v ≡ true = ap is_some (sym walked) ∙ c.if-is_none.ensures in
     let long-is : c.added-appended.result ≡ added (length v) c.in-Some.way = c.added-appended.ensures ∙ ap (λ i. added i c.in-Some.way) (sym long) in
     plan_long A m p l s.k c.args.room (contents s) c.args.letter v c.window-window.ensures.letters (omega arith) whole passing c.in-Some.way c.in-Some.ensures c.added-appended.result long-is c.if-end-room.true
     ∙ ap Err (sym c.short_text.ensures)
 
 pub returns : goal.returns
 returns g c =
-    let A = g.Kind.Letter.alphabet in
+    let A = g.S.Kind.Letter.alphabet in
     let s = c.args.self.now in
     let m = g.S.Automaton.model s.automaton in
     let v = shown c.window-window.result in
-    let p = by c.way-to.new.parents in
-    let l = by c.way-to.new.letters in
+    let p = by c.way_to.new.parents in
+    let l = by c.way_to.new.letters in
     let long = length-shown c.window-window.result in
     let whole : length v ≡ s.k = omega (arith, c.window-window.ensures.held.0, c.if-window-self.false) in
     let walked : c.walk.result ≡ run m v = c.walk.ensures ∙ ap (λ q. walk m.next q c.letters.result.now) c.first.ensures ∙ ap (run m) c.letters.ensures in
-    let passing : passes m v ≡ true = ap is_some (sym walked) ∙ c.if-is-none.ensures in
+    let passing : passes m v ≡ true = ap is_some (sym walked) ∙ c.if-is_none.ensures in
     let long-is : c.added-appended.result ≡ added (length v) c.in-Some.way = c.added-appended.ensures ∙ ap (λ i. added i c.in-Some.way) (sym long) in
     plan_keep A m p l s.k c.args.room (contents s) c.args.letter v c.window-window.ensures.letters (omega arith) whole passing c.in-Some.way c.in-Some.ensures c.added-appended.result long-is c.if-end-room.false
 
-pub overflow-add-end : goal.overflow-add-end
-overflow-add-end g c =
-    let A = g.Kind.Letter.alphabet in
+pub overflow_add-end : goal.overflow_add-end
+overflow_add-end g c =
+    let A = g.S.Kind.Letter.alphabet in
     let s = c.args.self.now in
     let m = g.S.Automaton.model s.automaton in
     let v = shown c.window-window.result in
@@ -71,7 +71,7 @@ overflow-add-end g c =
     let few = (g.S.Automaton.lawful s.automaton).few in
     let fits = c.window-window.result.fits in
     let is = c.added-appended.ensures ∙ ap (λ i. added i c.in-Some.way) (sym long) in
-    let most = added-few A (by c.way-to.new.parents) (by c.way-to.new.letters) m.count v c.in-Some.way c.in-Some.ensures.1 in
+    let most = added-few A (by c.way_to.new.parents) (by c.way_to.new.letters) m.count v c.in-Some.way c.in-Some.ensures.1 in
     let early = c.if-self-ge-MOST.false in
     let written = s.written in
     omega arith

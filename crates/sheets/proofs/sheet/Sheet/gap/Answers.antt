@@ -16,12 +16,12 @@ returns-then-self-ge-MOST g c =
       answers = a;
       leaves = gap-full s h;
       keeps = (refl, refl);
-      stands = λ t0 h' t past. after-gap g.Kind.Letter.alphabet g.Kind.Letter.numbered _ (g.S.Automaton.lawful _) _ t0 h' s t past _ _ a (gap-full s h);
+      stands = λ t0 h' t past. after-gap g.S.Kind.Letter.alphabet g.S.Kind.Letter.numbered _ (g.S.Automaton.lawful _) _ t0 h' s t past _ _ a (gap-full s h);
     }
 
 pub returns : goal.returns
 returns g c =
-    let A = g.Kind.Letter.alphabet in
+    let A = g.S.Kind.Letter.alphabet in
     let M = g.S.Automaton.model in
     let now = c.args.self.now in
     let then = c.advance.new.self in
@@ -37,5 +37,5 @@ returns g c =
       stands = λ t0 h' t past.
           subst (λ v. Followed (M v) A.number then.k (row_of A (M v)) t0 (gap (Ok tt) ∷ h') (contents then) t) (sym e.1)
           (subst (λ i. Followed (M now.automaton) A.number i (row_of A (M now.automaton)) t0 (gap (Ok tt) ∷ h') (contents then) t) (sym e.0)
-          (after-gap A g.Kind.Letter.numbered (M now.automaton) (g.S.Automaton.lawful _) now.k t0 h' s t past _ _ a l));
+          (after-gap A g.S.Kind.Letter.numbered (M now.automaton) (g.S.Automaton.lawful _) now.k t0 h' s t past _ _ a l));
     }

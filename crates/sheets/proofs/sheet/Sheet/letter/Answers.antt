@@ -13,7 +13,7 @@ use Rattle.sheets.proofs.sheet.Sheet.letter.Goals as goal
 
 pub returns-then-work-needed : goal.returns-then-work-needed
 returns-then-work-needed g c =
-    let A = g.Kind.Letter.alphabet in
+    let A = g.S.Kind.Letter.alphabet in
     let m = g.S.Automaton.model c.args.self.now.automaton in
     let k = c.args.self.now.k in
     let s = contents c.args.self.now in
@@ -32,12 +32,12 @@ returns-then-work-needed g c =
       writes = w;
       work = z;
       keeps = (refl, refl);
-      stands = λ t0 h' past. after-letter A g.Kind.Letter.numbered m (g.S.Automaton.lawful _) k t0 h' s t past c.args.letter work _ _ _ _ a z l w;
+      stands = λ t0 h' past. after-letter A g.S.Kind.Letter.numbered m (g.S.Automaton.lawful _) k t0 h' s t past c.args.letter work _ _ _ _ a z l w;
     }
 
 pub returns : goal.returns
 returns g c =
-    let A = g.Kind.Letter.alphabet in
+    let A = g.S.Kind.Letter.alphabet in
     let M = g.S.Automaton.model in
     let m = M c.args.self.now.automaton in
     let k = c.args.self.now.k in
@@ -67,5 +67,5 @@ returns g c =
       stands = λ t0 h' past.
           subst (λ v. Followed (M v) A.number then.k (row_of A (M v)) t0 (letter x work c.within.result left ∷ h') (contents then) c.within.new.text) (sym e.1)
           (subst (λ i. Followed m A.number i row t0 (letter x work c.within.result left ∷ h') (contents then) c.within.new.text) (sym e.0)
-          (after-letter A g.Kind.Letter.numbered m (g.S.Automaton.lawful _) k t0 h' s t past x work _ _ _ _ a z l w));
+          (after-letter A g.S.Kind.Letter.numbered m (g.S.Automaton.lawful _) k t0 h' s t past x work _ _ _ _ a z l w));
     }

@@ -11,10 +11,10 @@ returns-then-k-lt2 g c = opening_bad (g.S.Automaton.model c.args.automaton) c.ar
 
 pub returns : goal.returns
 returns g c =
-    let A = g.Kind.Letter.alphabet in
+    let A = g.S.Kind.Letter.alphabet in
     let m = g.S.Automaton.model c.args.automaton in
     let k = c.args.k in
     let opens = fits_opening m k (record { some = omega arith; few = omega arith; recalls = omega arith }) in
     let none = sym c.empty.ensures.0 in
     let all : List g.row.S-Kind.Denot → Contents g.row.S-Kind.Denot = λ r. record { running = r; latest = None; taken = 0; counts = record { letters = 0; kept = 0; skipped = 0; text = 0; filled = 0 } } in
-    (opens ∙ ap (λ r. Ok (all r)) none, refl, refl, λ t. subst (λ r. Followed m A.number k (row_of A m) t [] (all r) t) none (after-opening A g.Kind.Letter.numbered m (g.S.Automaton.lawful _) k opens t))
+    (opens ∙ ap (λ r. Ok (all r)) none, refl, refl, λ t. subst (λ r. Followed m A.number k (row_of A m) t [] (all r) t) none (after-opening A g.S.Kind.Letter.numbered m (g.S.Automaton.lawful _) k opens t))

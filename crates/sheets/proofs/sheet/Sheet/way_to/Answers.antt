@@ -22,7 +22,7 @@ find-requires g c =
 
 pub returns-in-Some : goal.returns-in-Some
 returns-in-Some g c =
-    let A = g.Kind.Letter.alphabet in
+    let A = g.S.Kind.Letter.alphabet in
     let s = c.args.self.now in
     let m = g.S.Automaton.model s.automaton in
     let w = shown c.args.window.now in
