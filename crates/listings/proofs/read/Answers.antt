@@ -36,8 +36,8 @@ returns-in_err-at_line g c = record {
   left = λ n m ps h. let now = c.loop-line.invariant n m ps h in search rules;
 }
 
-pub returns-in_err-at_line-2 : goal.returns-in_err-at_line-2
-returns-in_err-at_line-2 g c = record {
+pub returns-in_err-at_line-in-Pattern : goal.returns-in_err-at_line-in-Pattern
+returns-in_err-at_line-in-Pattern g c = record {
   answer = λ n m ps h.
       let now = c.loop-line.invariant n m ps h in
       let cause = c.add_bytes.ensures.cause n m now.0 now.1.0 in

@@ -5,5 +5,5 @@ use Rattle.checks.proofs.report.show_text.Goals as goal
 
 pub returns : goal.returns
 returns c =
-    let second = wrote_is _ (ap (λ n. labelled (codes "walked: ") n (codes " letters\n")) c.unwrap-or.ensures) c.labelled-2.ensures in
-    wrote_then _ refl c.labelled.ensures (wrote_then _ refl second c.show-verdict.ensures)
+    let second = wrote_is _ (ap (λ n. labelled (codes "walked: ") n (codes " letters\n")) c.unwrap_or.ensures) c.labelled-2.ensures in
+    wrote_then _ refl c.labelled.ensures (wrote_then _ refl second c.show_verdict.ensures)

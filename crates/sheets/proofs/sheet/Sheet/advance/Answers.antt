@@ -7,25 +7,65 @@ pub invariant_of-self : goal.invariant_of-self
 invariant_of-self g c =
     let s = c.args.self.now in
     let few = c.requires.few in
-    (s.some, (s.most, (omega arith, (s.within, (s.all, (s.fewer, (s.kept, (omega arith, omega arith))))))))
+    record {
+      some = s.some;
+      most = s.most;
+      few = omega arith;
+      within = s.within;
+      all = s.all;
+      fewer = s.fewer;
+      kept = s.kept;
+      counted = omega arith;
+      written = omega arith;
+    }
 
-pub invariant_of-self-in-Letter·-this : goal.invariant_of-self-in-Letter·-this
-invariant_of-self-in-Letter·-this g c =
+pub invariant_of-self-in-Letter-this : goal.invariant_of-self-in-Letter-this
+invariant_of-self-in-Letter-this g c =
     let s = c.args.self.now in
     let few = c.requires.few in
-    (s.some, (s.most, (omega arith, (s.within, (s.all, (s.fewer, (s.kept, (omega arith, omega arith))))))))
+    record {
+      some = s.some;
+      most = s.most;
+      few = omega arith;
+      within = s.within;
+      all = s.all;
+      fewer = s.fewer;
+      kept = s.kept;
+      counted = omega arith;
+      written = omega arith;
+    }
 
-pub invariant_of-self-in-Letter·-this-2 : goal.invariant_of-self-in-Letter·-this-2
-invariant_of-self-in-Letter·-this-2 g c =
+pub invariant_of-self-in-Letter-this-2 : goal.invariant_of-self-in-Letter-this-2
+invariant_of-self-in-Letter-this-2 g c =
     let s = c.args.self.now in
     let few = c.requires.few in
-    (s.some, (s.most, (omega arith, (s.within, (s.all, (s.fewer, (s.kept, (omega arith, omega arith))))))))
+    record {
+      some = s.some;
+      most = s.most;
+      few = omega arith;
+      within = s.within;
+      all = s.all;
+      fewer = s.fewer;
+      kept = s.kept;
+      counted = omega arith;
+      written = omega arith;
+    }
 
-pub invariant_of-self-in-Letter·-this-3 : goal.invariant_of-self-in-Letter·-this-3
-invariant_of-self-in-Letter·-this-3 g c =
+pub invariant_of-self-in-Letter-this-3 : goal.invariant_of-self-in-Letter-this-3
+invariant_of-self-in-Letter-this-3 g c =
     let s = c.args.self.now in
     let few = c.requires.few in
-    (s.some, (s.most, (omega arith, (s.within, (s.all, (s.fewer, (s.kept, (omega arith, omega arith))))))))
+    record {
+      some = s.some;
+      most = s.most;
+      few = omega arith;
+      within = s.within;
+      all = s.all;
+      fewer = s.fewer;
+      kept = s.kept;
+      counted = omega arith;
+      written = omega arith;
+    }
 
 pub invariant_of-self-in-Seeking-Letter : goal.invariant_of-self-in-Seeking-Letter
 invariant_of-self-in-Seeking-Letter g c =
@@ -33,7 +73,17 @@ invariant_of-self-in-Seeking-Letter g c =
     let few = c.requires.few in
     let now = c.window-window-in-Seeking-Letter.ensures in
     let whole : full s.stage ≡ true = ap full c.in-Seeking-Letter.is-0 in
-    (s.some, (s.most, (omega arith, (now.held.0, (now.whole, ((λ h. absurd (never_both (full s.stage) whole h)), (s.kept, (omega arith, omega arith))))))))
+    record {
+      some = s.some;
+      most = s.most;
+      few = omega arith;
+      within = now.held.0;
+      all = now.whole;
+      fewer = λ h. absurd (never_both (full s.stage) whole h);
+      kept = s.kept;
+      counted = omega arith;
+      written = omega arith;
+    }
 
 pub invariant_of-self-in-Going-Letter : goal.invariant_of-self-in-Going-Letter
 invariant_of-self-in-Going-Letter g c =
@@ -41,4 +91,14 @@ invariant_of-self-in-Going-Letter g c =
     let few = c.requires.few in
     let now = c.window-window-in-Going-Letter.ensures in
     let whole : full s.stage ≡ true = ap full c.in-Going-Letter.is-0 in
-    (s.some, (s.most, (omega arith, (now.held.0, (now.whole, ((λ h. absurd (never_both (full s.stage) whole h)), (s.kept, (omega arith, omega arith))))))))
+    record {
+      some = s.some;
+      most = s.most;
+      few = omega arith;
+      within = now.held.0;
+      all = now.whole;
+      fewer = λ h. absurd (never_both (full s.stage) whole h);
+      kept = s.kept;
+      counted = omega arith;
+      written = omega arith;
+    }

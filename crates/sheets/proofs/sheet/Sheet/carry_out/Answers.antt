@@ -25,7 +25,17 @@ invariant_of-self g c =
     let few = ready_few g.S.Kind.Letter.alphabet (by c.args.parents.now) (by c.args.letters.now) (length c.args.parents.now) s.k (window s.k (contents s) c.args.letter) s.counts.text (length c.args.text.now) c.args.plan c.requires.ready c.requires.long.1 s.most in
     let more : t.taken ≡ s.taken + 1 = ap (λ v. v.taken) c.advance.ensures.leaves in
     let is = c.count-counts.ensures in
-    (t.some, (t.most, (t.few, (t.within, (t.all, (t.fewer, (t.kept, (counted-few s.k s.counts c.count-counts.result c.args.plan s.taken t.taken is more s.counted, (counted-text s.k s.counts c.count-counts.result c.args.plan s.taken t.taken is more few s.written, tt)))))))))
+    record {
+      some = t.some;
+      most = t.most;
+      few = t.few;
+      within = t.within;
+      all = t.all;
+      fewer = t.fewer;
+      kept = t.kept;
+      counted = counted-few s.k s.counts c.count-counts.result c.args.plan s.taken t.taken is more s.counted;
+      written = counted-text s.k s.counts c.count-counts.result c.args.plan s.taken t.taken is more few s.written;
+    }
 
 pub invariant_of-self-in-Skip : goal.invariant_of-self-in-Skip
 invariant_of-self-in-Skip g c =
@@ -34,7 +44,17 @@ invariant_of-self-in-Skip g c =
     let few = ready_few g.S.Kind.Letter.alphabet (by c.args.parents.now) (by c.args.letters.now) (length c.args.parents.now) s.k (window s.k (contents s) c.args.letter) s.counts.text (length c.args.text.now) c.args.plan c.requires.ready c.requires.long.1 s.most in
     let more : t.taken ≡ s.taken + 1 = ap (λ v. v.taken) c.advance.ensures.leaves in
     let is = c.count-counts.ensures in
-    (t.some, (t.most, (t.few, (t.within, (t.all, (t.fewer, (t.kept, (counted-few s.k s.counts c.count-counts.result c.args.plan s.taken t.taken is more s.counted, (counted-text s.k s.counts c.count-counts.result c.args.plan s.taken t.taken is more few s.written, tt)))))))))
+    record {
+      some = t.some;
+      most = t.most;
+      few = t.few;
+      within = t.within;
+      all = t.all;
+      fewer = t.fewer;
+      kept = t.kept;
+      counted = counted-few s.k s.counts c.count-counts.result c.args.plan s.taken t.taken is more s.counted;
+      written = counted-text s.k s.counts c.count-counts.result c.args.plan s.taken t.taken is more few s.written;
+    }
 
 pub invariant_of-self-in-Keep : goal.invariant_of-self-in-Keep
 invariant_of-self-in-Keep g c =
@@ -49,7 +69,17 @@ invariant_of-self-in-Keep g c =
     let is = c.count-counts.ensures in
     let ready = so A p l n s.k (length c.args.text.now) (contents s) c.args.letter c.args.plan c.in-Keep.way c.in-Keep.appended c.in-Keep.is c.requires.ready in
     let whole : t.running.held ≡ t.k = sym (length-shown t.running) ∙ ap (λ v. length v.running) c.advance.ensures.leaves ∙ ready.0 ∙ sym c.advance.ensures.keeps.0 in
-    (t.some, (t.most, (t.few, (t.within, ((λ _. whole), ((λ h. absurd (never_both true refl h)), (whole, (counted-few s.k s.counts c.count-counts.result c.args.plan s.taken t.taken is more s.counted, (counted-text s.k s.counts c.count-counts.result c.args.plan s.taken t.taken is more few s.written, tt)))))))))
+    record {
+      some = t.some;
+      most = t.most;
+      few = t.few;
+      within = t.within;
+      all = λ _. whole;
+      fewer = λ h. absurd (never_both true refl h);
+      kept = whole;
+      counted = counted-few s.k s.counts c.count-counts.result c.args.plan s.taken t.taken is more s.counted;
+      written = counted-text s.k s.counts c.count-counts.result c.args.plan s.taken t.taken is more few s.written;
+    }
 
 pub put_row-requires : goal.put_row-requires
 put_row-requires g c =

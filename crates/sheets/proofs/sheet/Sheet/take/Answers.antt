@@ -46,7 +46,7 @@ carry_out-requires g c =
     let few = (g.S.Automaton.lawful s.automaton).few in
     let long : m.count ≡ length c.decide.new.parents = omega arith in
     let ready = subst (λ i. Ready A (by c.decide.new.parents) (by c.decide.new.letters) i s.k (window s.k (contents s) x) s.counts.text (length t) c.in_ok-plan.plan) long told.1 in
-    (search rules, (early, (omega arith, (omega arith, ready))))
+    (search rules, (early, ((omega arith, omega arith), ready)))
 
 pub returns : goal.returns
 returns g c =
