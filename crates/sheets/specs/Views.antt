@@ -17,19 +17,19 @@ use Rattle.sheetlaw.specs.declared.Answer.{Answer}
 use Rattle.sheets.specs.Stages.{shown, latest}
 use Rattle.sheets.specs.declared.sheet.Sheet.{Sheet}
 
-abbrev pub contents : {V K : Type 0} {a : _} {l : _} → Sheet V K a l → Contents K
+abbrev pub contents : {V K : Type 0} {gv : _} {gk : _} → Sheet V K gv gk → Contents K
 contents s = record { running = shown s.running; latest = latest s.stage; taken = s.taken; counts = s.counts }
 
 module _ {V K : Type 0} (A : Alphabet K) (model : V → Model K) where
-  abbrev pub Stands : {a : _} {l : _} → List K → List (Turn K) → Sheet V K a l → List K → Type 0
+  abbrev pub Stands : {gv : _} {gk : _} → List K → List (Turn K) → Sheet V K gv gk → List K → Type 0
   Stands t0 h s t = Followed (model s.automaton) A.number s.k (row_of A (model s.automaton)) t0 h (contents s) t
 
   -- with a work table of so many words, and a text table with so much room
-  abbrev pub answered : {a : _} {l : _} → Sheet V K a l → K → ℕ → ℕ → Result Answer Fault
+  abbrev pub answered : {gv : _} {gk : _} → Sheet V K gv gk → K → ℕ → ℕ → Result Answer Fault
   answered s x work room = answers (model s.automaton) s.k (row_of A (model s.automaton)) work room (contents s) x
 
-  abbrev pub left_in : {a : _} {l : _} → Sheet V K a l → K → ℕ → ℕ → Contents K
+  abbrev pub left_in : {gv : _} {gk : _} → Sheet V K gv gk → K → ℕ → ℕ → Contents K
   left_in s x work room = leaves (model s.automaton) s.k (row_of A (model s.automaton)) work room (contents s) x
 
-  abbrev pub written_to : {a : _} {l : _} → Sheet V K a l → K → ℕ → List K → List K
+  abbrev pub written_to : {gv : _} {gk : _} → Sheet V K gv gk → K → ℕ → List K → List K
   written_to s x work t = writes (model s.automaton) s.k (row_of A (model s.automaton)) work (contents s) x t

@@ -27,7 +27,7 @@ use Rattle.stepping.specs.Outcomes.{Report, Told, concluded, file_lines, sheet_l
 use Rattle.stepping.proofs.Traces.{length-brought, length-turns}
 
 -- a sheet s that was opened on the automaton v with windows of k letters, and s' after the letters and gaps es
-module _ {V K : Type 0} (A : Alphabet K) (printed : ℕ → ℕ) (M : V → Model K) (v : V) (k : ℕ) (t : List K) (w : List ℕ) (es : List (Event K)) (s : Sheet V K) (ev : s.automaton ≡ v) (ek : s.k ≡ k) where
+module _ {V K : Type 0} {gv : _} {gk : _} (A : Alphabet K) (printed : ℕ → ℕ) (M : V → Model K) (v : V) (k : ℕ) (t : List K) (w : List ℕ) (es : List (Event K)) (s : Sheet V K gv gk) (ev : s.automaton ≡ v) (ek : s.k ≡ k) where
   same-calls : calls_after A M s w es t [] ≡ calls_of A t w (M v) k es
   same-calls = ap (λ u. calls_of A t w (M u) s.k es) ev ∙ ap (λ i. calls_of A t w (M v) i es) ek
 
@@ -38,7 +38,7 @@ module _ {V K : Type 0} (A : Alphabet K) (printed : ℕ → ℕ) (M : V → Mode
       let few : length c ≤ length es = omega (arith, length-turns (M v) k (row_of A (M v)) t [] (brought (needs (M v)) w es), length-brought (needs (M v)) w es) in
       ap (take (length es)) same-calls ∙ take_all (length es) c few
 
-  module _ (s' : Sheet V K) (t' : List K) (kk : s'.k ≡ s.k) (kv : s'.automaton ≡ s.automaton) (stands : Stands A M t (calls_after A M s w es t []) s' t') where
+  module _ (s' : Sheet V K gv gk) (t' : List K) (kk : s'.k ≡ s.k) (kv : s'.automaton ≡ s.automaton) (stands : Stands A M t (calls_after A M s w es t []) s' t') where
     held : Followed (M v) A.number k (row_of A (M v)) t (calls_of A t w (M v) k es) (contents s') t'
     held =
         subst (λ h. Followed (M v) A.number k (row_of A (M v)) t h (contents s') t') same-calls

@@ -60,7 +60,7 @@ wrote_none : (p : Page) → Wrote p p []
 wrote_none p = record { text = λ xs ys h. subst (λ l. Holds p l ys) (sym (append-nil xs)) h; page = refl }
 
 -- a call, from what the sheet answers and leaves
-module _ {V K : Type 0} (A : Alphabet K) (M : V → Model K) (s : Sheet V K) (t : List K) (work : List ℕ) (e : Event K) where
+module _ {V K : Type 0} {gv : _} {gk : _} (A : Alphabet K) (M : V → Model K) (s : Sheet V K gv gk) (t : List K) (work : List ℕ) (e : Event K) where
   pub letter-call : (x : K) (r : Result Answer Fault) (left : List ℕ) → e ≡ Letter x → r ≡ answered A M s x (length work) (length t) → left ≡ cleared (needs (M s.automaton)) work → letter x work r left ≡ call_on A M s t work e
   letter-call x r left ee er el =
       ap (λ q. letter x work q left) er ∙ ap (letter x work (answered A M s x (length work) (length t))) el ∙ sym (ap (call_on A M s t work) ee)
@@ -78,21 +78,21 @@ module _ {K : Type 0} (A : Alphabet K) (printed : ℕ → ℕ) (n : ℕ) (h : Li
   taken_more : all_taken (take n h) && is_taken c ≡ all_taken (take (n + 1) (c ∷ h))
   taken_more = ap (λ i. all_taken (take i (c ∷ h))) (sym (add-one n))
 
-module _ {V K : Type 0} (A : Alphabet K) (printed : ℕ → ℕ) (M : V → Model K) (s0 : Sheet V K) (text : List K) (first : List ℕ) (p0 : Page) where
+module _ {V K : Type 0} {gv : _} {gk : _} (A : Alphabet K) (printed : ℕ → ℕ) (M : V → Model K) (s0 : Sheet V K gv gk) (text : List K) (first : List ℕ) (p0 : Page) where
   -- what holds of the calls of es, for every list of calls before them after which the law stood
-  pub record Standing (es : List (Event K)) (s : Sheet V K) (t : List K) (p : Page) (all : Bool) (t0 : List K) (h : List (Turn K)) : Type 0 where
+  pub record Standing (es : List (Event K)) (s : Sheet V K gv gk) (t : List K) (p : Page) (all : Bool) (t0 : List K) (h : List (Turn K)) : Type 0 where
     pub law : Stands A M t0 (calls_after A M s0 first es t0 h) s t
     pub lines : Wrote p0 p (step_lines A printed (take (length es) (calls_after A M s0 first es t0 h)))
     pub taken : all ≡ all_taken (take (length es) (calls_after A M s0 first es t0 h))
 
-  pub record Past (es : List (Event K)) (s : Sheet V K) (t : List K) (work : List ℕ) (p : Page) (place : ℕ) (all : Bool) : Type 0 where
+  pub record Past (es : List (Event K)) (s : Sheet V K gv gk) (t : List K) (work : List ℕ) (p : Page) (place : ℕ) (all : Bool) : Type 0 where
     pub window : s.k ≡ s0.k
     pub automaton : s.automaton ≡ s0.automaton
     pub left : work ≡ left_over (needs (M s0.automaton)) first es
     pub count : place ≡ length es
     pub stands : (t0 : List K) (h : List (Turn K)) → Stands A M t0 h s0 text → Standing es s t p all t0 h
 
-  module _ (es : List (Event K)) (s : Sheet V K) (t : List K) (work : List ℕ) (p : Page) (place : ℕ) (all : Bool) (past : Past es s t work p place all) (e : Event K) where
+  module _ (es : List (Event K)) (s : Sheet V K gv gk) (t : List K) (work : List ℕ) (p : Page) (place : ℕ) (all : Bool) (past : Past es s t work p place all) (e : Event K) where
     -- the call is the next one of the definitions
     next-call : (t0 : List K) (h : List (Turn K)) → Stands A M t0 (calls_after A M s0 first es t0 h) s t → call_on A M s t work e ∷ calls_after A M s0 first es t0 h ≡ calls_after A M s0 first (es ++ e ∷ []) t0 h
     next-call t0 h held =
@@ -102,7 +102,7 @@ module _ {V K : Type 0} (A : Alphabet K) (printed : ℕ → ℕ) (M : V → Mode
         ]
 
     -- one more, from what the step ensures
-    pub past_more : (s' : Sheet V K) (t' : List K) (work' : List ℕ) (p' : Page) (r all' : Bool) (place' : ℕ)
+    pub past_more : (s' : Sheet V K gv gk) (t' : List K) (work' : List ℕ) (p' : Page) (r all' : Bool) (place' : ℕ)
         → Wrote p p' (turn_line A printed place (call_on A M s t work e)) → r ≡ is_taken (call_on A M s t work e) → work' ≡ left_over (needs (M s.automaton)) work (e ∷ [])
         → s'.k ≡ s.k → s'.automaton ≡ s.automaton
         → ((t0 : List K) (h : List (Turn K)) → Stands A M t0 h s t → Stands A M t0 (call_on A M s t work e ∷ h) s' t')
@@ -145,7 +145,7 @@ module _ {V K : Type 0} (A : Alphabet K) (printed : ℕ → ℕ) (M : V → Mode
   }
 
   -- the same, by other terms
-  pub past-at : {es es' : List (Event K)} {s s' : Sheet V K} {t t' : List K} {work work' : List ℕ} {p p' : Page} {place place' : ℕ} {all all' : Bool}
+  pub past-at : {es es' : List (Event K)} {s s' : Sheet V K gv gk} {t t' : List K} {work work' : List ℕ} {p p' : Page} {place place' : ℕ} {all all' : Bool}
       → es' ≡ es → s' ≡ s → t' ≡ t → work' ≡ work → p' ≡ p → place' ≡ place → all' ≡ all → Past es s t work p place all → Past es' s' t' work' p' place' all'
   past-at {es} {es'} {s} {s'} {t} {t'} {work} {work'} {p} {p'} {place} {place'} {all} {all'} ee e0 e1 e2 e3 e4 e5 past =
       subst (λ l. Past l s' t' work' p' place' all') (sym ee) (subst (λ v. Past es v t' work' p' place' all') (sym e0) (subst (λ v. Past es s v work' p' place' all') (sym e1) (subst (λ v. Past es s t v p' place' all') (sym e2)

@@ -18,10 +18,10 @@ use Rattle.drives.specs.Traces.{brought}
 use Rattle.stepping.specs.Steps.{call}
 
 -- the law holds of it with no calls made, whatever text table comes first
-abbrev pub Fresh : {V K : Type 0} → Alphabet K → (V → Model K) → V → ℕ → Sheet V K → Type 0
+abbrev pub Fresh : {V K : Type 0} {gv : _} {gk : _} → Alphabet K → (V → Model K) → V → ℕ → Sheet V K gv gk → Type 0
 Fresh {V} {K} A model v k s = (s.k ≡ k) × (s.automaton ≡ v) × ((t : List K) → Stands A model t [] s t)
 
-module _ {V K : Type 0} (A : Alphabet K) (model : V → Model K) (s : Sheet V K) where
+module _ {V K : Type 0} {gv : _} {gk : _} (A : Alphabet K) (model : V → Model K) (s : Sheet V K gv gk) where
   abbrev pub call_on : List K → List ℕ → Event K → Turn K
   call_on t work e = call (model s.automaton) s.k (row_of A (model s.automaton)) (contents s) t e work
 

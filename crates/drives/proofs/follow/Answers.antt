@@ -26,7 +26,7 @@ loop-event-preserved g c =
     let s = c.loop-event.sheet in
     let inv = c.loop-event.invariant in
     let more = take_more events i c.event-item.result (omega arith) in
-    let Kept-on : Sheet g.row.S.Denot g.row.S-Kind.Denot → List g.row.S-Kind.Denot → List ℕ → Type 0 = λ s' t' w'.
+    let Kept-on : Sheet g.row.S.Denot g.row.S-Kind.Denot g.S.Automaton g.S.Kind.Letter → List g.row.S-Kind.Denot → List ℕ → Type 0 = λ s' t' w'.
     (s'.k ≡ s0.k) × (s'.automaton ≡ s0.automaton) × (w' ≡ left_over (needs m) first now)
     × ((t0 : List g.row.S-Kind.Denot) (h : List (Turn g.row.S-Kind.Denot)) → Stands A M t0 h s0 c.args.text.now → Stands A M t0 (turns m s0.k (row_of A m) t0 h (brought (needs m) first now)) s' t')
     × ((contents s', t') ≡ driven m s0.k (row_of A m) (length first) (contents s0, c.args.text.now) now) in

@@ -9,36 +9,36 @@ use Rattle.joinings.proofs.outcome.join_lines.Goals as goal
 
 pub returns-in-Ok-Two : goal.returns-in-Ok-Two
 returns-in-Ok-Two c =
-    let t : Tables = record { records = length c.args.records.now; words = length c.args.words.now; two = record { letters = length c.args.two-letters.now; text = length c.args.two-text.now }; trend = record { letters = length c.args.trend-letters.now; text = length c.args.trend-text.now }; seepage = record { letters = length c.args.seepage-letters.now; text = length c.args.seepage-text.now }; work = length c.args.work.now } in
+    let t : Tables = record { records = length c.args.records.now; words = length c.args.words.now; two = record { letters = length c.args.two_letters.now; text = length c.args.two_text.now }; trend = record { letters = length c.args.trend_letters.now; text = length c.args.trend_text.now }; seepage = record { letters = length c.args.seepage_letters.now; text = length c.args.seepage_text.now }; work = length c.args.work.now } in
     let lines = c.header.new.lines in
     let few : length c.args.input.now ≤ 60000 = omega arith in
     let head : headed 1 (items c.args.input.now) ≡ Ok (Two, (lines.number + 1, items lines.rest.now)) = search rules in
     let is = sym (outcome_is t c.args.input.now Two (lines.number + 1) (items lines.rest.now) few head) in
     record {
-      page = wrote_is _ (ap printed is) c.join-kind.ensures.page;
-      joined = c.join-kind.ensures.joined ∙ ap (λ o. is_ok o) is;
+      page = wrote_is _ (ap printed is) c.join_kind.ensures.page;
+      joined = c.join_kind.ensures.joined ∙ ap (λ o. is_ok o) is;
     }
 
 pub returns-in-Ok-Trend : goal.returns-in-Ok-Trend
 returns-in-Ok-Trend c =
-    let t : Tables = record { records = length c.args.records.now; words = length c.args.words.now; two = record { letters = length c.args.two-letters.now; text = length c.args.two-text.now }; trend = record { letters = length c.args.trend-letters.now; text = length c.args.trend-text.now }; seepage = record { letters = length c.args.seepage-letters.now; text = length c.args.seepage-text.now }; work = length c.args.work.now } in
+    let t : Tables = record { records = length c.args.records.now; words = length c.args.words.now; two = record { letters = length c.args.two_letters.now; text = length c.args.two_text.now }; trend = record { letters = length c.args.trend_letters.now; text = length c.args.trend_text.now }; seepage = record { letters = length c.args.seepage_letters.now; text = length c.args.seepage_text.now }; work = length c.args.work.now } in
     let lines = c.header.new.lines in
     let few : length c.args.input.now ≤ 60000 = omega arith in
     let head : headed 1 (items c.args.input.now) ≡ Ok (Trend, (lines.number + 1, items lines.rest.now)) = search rules in
     let is = sym (outcome_is t c.args.input.now Trend (lines.number + 1) (items lines.rest.now) few head) in
     record {
-      page = wrote_is _ (ap printed is) c.join-kind-in-Ok-Trend.ensures.page;
-      joined = c.join-kind-in-Ok-Trend.ensures.joined ∙ ap (λ o. is_ok o) is;
+      page = wrote_is _ (ap printed is) c.join_kind-in-Ok-Trend.ensures.page;
+      joined = c.join_kind-in-Ok-Trend.ensures.joined ∙ ap (λ o. is_ok o) is;
     }
 
 pub returns-in-Ok-Seepage : goal.returns-in-Ok-Seepage
 returns-in-Ok-Seepage c =
-    let t : Tables = record { records = length c.args.records.now; words = length c.args.words.now; two = record { letters = length c.args.two-letters.now; text = length c.args.two-text.now }; trend = record { letters = length c.args.trend-letters.now; text = length c.args.trend-text.now }; seepage = record { letters = length c.args.seepage-letters.now; text = length c.args.seepage-text.now }; work = length c.args.work.now } in
+    let t : Tables = record { records = length c.args.records.now; words = length c.args.words.now; two = record { letters = length c.args.two_letters.now; text = length c.args.two_text.now }; trend = record { letters = length c.args.trend_letters.now; text = length c.args.trend_text.now }; seepage = record { letters = length c.args.seepage_letters.now; text = length c.args.seepage_text.now }; work = length c.args.work.now } in
     let lines = c.header.new.lines in
     let few : length c.args.input.now ≤ 60000 = omega arith in
     let head : headed 1 (items c.args.input.now) ≡ Ok (Seepage, (lines.number + 1, items lines.rest.now)) = search rules in
     let is = sym (outcome_is t c.args.input.now Seepage (lines.number + 1) (items lines.rest.now) few head) in
     record {
-      page = wrote_is _ (ap printed is) c.join-kind-in-Ok-Seepage.ensures.page;
-      joined = c.join-kind-in-Ok-Seepage.ensures.joined ∙ ap (λ o. is_ok o) is;
+      page = wrote_is _ (ap printed is) c.join_kind-in-Ok-Seepage.ensures.page;
+      joined = c.join_kind-in-Ok-Seepage.ensures.joined ∙ ap (λ o. is_ok o) is;
     }

@@ -5,16 +5,16 @@ use Rattle.rewrites.proofs.outcome.rewrite_file.Goals as goal
 
 pub returns : goal.returns
 returns c =
-    let text = c.print-file-written.ensures.page.text [] c.args.out.now c.new-page.ensures.fresh in
-    let same = c.print-file-written.ensures.page.page ∙ c.new-page.ensures.page in
+    let text = c.print_file-written.ensures.page.text [] c.args.out.now c.new-page.ensures.fresh in
+    let same = c.print_file-written.ensures.page.page ∙ c.new-page.ensures.page in
     record {
       out = search rules;
       length = c.used.ensures ∙ text.1;
-      written = c.print-file-written.ensures.written;
-      two = c.print-file-written.ensures.two;
-      trend = c.print-file-written.ensures.trend;
-      seepage = c.print-file-written.ensures.seepage;
-      work = c.print-file-written.ensures.work;
+      written = c.print_file-written.ensures.written;
+      two = c.print_file-written.ensures.two;
+      trend = c.print_file-written.ensures.trend;
+      seepage = c.print_file-written.ensures.seepage;
+      work = c.print_file-written.ensures.work;
       good = good (length c.args.records.now) (length c.args.words.now) c.args.two.now c.args.trend.now c.args.seepage.now c.args.work.now c.args.input.now;
       first = first (length c.args.records.now) (length c.args.words.now) c.args.two.now c.args.trend.now c.args.seepage.now c.args.work.now c.args.input.now;
     }

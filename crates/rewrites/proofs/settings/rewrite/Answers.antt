@@ -7,25 +7,25 @@ use Rattle.rewritelaw.specs.Traces.{left_as, rewritten}
 use Rattle.rewrites.proofs.Running.{unopened, ran}
 use Rattle.rewrites.proofs.settings.rewrite.Goals as goal
 
-pub returns-in-err-sheet : goal.returns-in-err-sheet
-returns-in-err-sheet g c =
-    let p = err_from_is_err_and c.from-residual.result c.from-residual.ensures.1 in
+pub returns-in_err-sheet : goal.returns-in_err-sheet
+returns-in_err-sheet g c =
+    let p = err_from_is_err_and c.from_residual.result c.from_residual.ensures.1 in
     ap (λ r. left_as r c.args.text.now c.args.work.now) (p.1 ∙ ap Err p.2)
-    ∙ unopened g.S.Kind.Letter.alphabet g.S.Kind.Printable.parsed (g.S.Automaton.model c.args.automaton) c.args.k c.args.trace.now c.args.text.now c.args.work.now c.in-err-sheet.field-0.0 c.in-err-sheet.ensures
+    ∙ unopened g.S.Kind.Letter.alphabet g.S.Kind.Printable.parsed (g.S.Automaton.model c.args.automaton) c.args.k c.args.trace.now c.args.text.now c.args.work.now c.in_err-sheet.field-0.0 c.in_err-sheet.ensures
 
-pub returns-in-err-feed : goal.returns-in-err-feed
-returns-in-err-feed g c =
+pub returns-in_err-feed : goal.returns-in_err-feed
+returns-in_err-feed g c =
     let A = g.S.Kind.Letter.alphabet in
     let parsed = g.S.Kind.Printable.parsed in
     let m = g.S.Automaton.model c.args.automaton in
     let t = c.feed.new.text in
     let v = c.feed.new.work in
     let s = contents c.feed.new.sheet in
-    let o = c.in-ok-sheet.ensures in
-    let p = err_from_is_err_and c.from-residual-in-err-feed.result c.from-residual-in-err-feed.ensures.1 in
-    let whole = ran A parsed m c.args.k c.args.trace.now c.args.text.now c.args.work.now (contents c.in-ok-sheet.sheet) s t v c.feed.result _ _ o.0 (ap g.S.Automaton.model o.2) o.1 c.feed.ensures.fed in
+    let o = c.in_ok-sheet.ensures in
+    let p = err_from_is_err_and c.from_residual-in_err-feed.result c.from_residual-in_err-feed.ensures.1 in
+    let whole = ran A parsed m c.args.k c.args.trace.now c.args.text.now c.args.work.now (contents c.in_ok-sheet.sheet) s t v c.feed.result _ _ o.0 (ap g.S.Automaton.model o.2) o.1 c.feed.ensures.fed in
     ap (λ r. left_as r t v) (p.1 ∙ ap Err p.2)
-    ∙ subst (λ r. left_as (bind r (λ _. Ok (close s))) t v ≡ rewritten A parsed m c.args.k c.args.trace.now c.args.text.now c.args.work.now) c.in-err-feed.was whole
+    ∙ subst (λ r. left_as (bind r (λ _. Ok (close s))) t v ≡ rewritten A parsed m c.args.k c.args.trace.now c.args.text.now c.args.work.now) c.in_err-feed.was whole
 
 pub returns : goal.returns
 returns g c =
@@ -35,7 +35,7 @@ returns g c =
     let t = c.feed.new.text in
     let v = c.feed.new.work in
     let s = contents c.feed.new.sheet in
-    let o = c.in-ok-sheet.ensures in
-    let whole = ran A parsed m c.args.k c.args.trace.now c.args.text.now c.args.work.now (contents c.in-ok-sheet.sheet) s t v c.feed.result _ _ o.0 (ap g.S.Automaton.model o.2) o.1 c.feed.ensures.fed in
+    let o = c.in_ok-sheet.ensures in
+    let whole = ran A parsed m c.args.k c.args.trace.now c.args.text.now c.args.work.now (contents c.in_ok-sheet.sheet) s t v c.feed.result _ _ o.0 (ap g.S.Automaton.model o.2) o.1 c.feed.ensures.fed in
     ap (λ n. left_as (Ok n) t v) c.close.ensures.counts
-    ∙ subst (λ r. left_as (bind r (λ _. Ok (close s))) t v ≡ rewritten A parsed m c.args.k c.args.trace.now c.args.text.now c.args.work.now) c.in-ok-feed.was whole
+    ∙ subst (λ r. left_as (bind r (λ _. Ok (close s))) t v ≡ rewritten A parsed m c.args.k c.args.trace.now c.args.text.now c.args.work.now) c.in_ok-feed.was whole

@@ -14,17 +14,17 @@ loop-place-preserved g c =
     let bs = c.args.trace.now in
     let i = c.loop-place.place in
     let now = c.loop-place.invariant in
-    let s = contents c.feed-byte.new.sheet in
-    let t = c.feed-byte.new.text in
-    let v = c.feed-byte.new.work in
-    let more = fed-more A parsed m k bs i (contents c.loop-place.sheet) s c.loop-place.text t c.loop-place.work v c.feed-byte.result _ _ c.loop-place-test.true (ap g.S.Automaton.model now.2) now.1 c.feed-byte.ensures.fed in (
-      subst (λ r. go_on r s t v (fed A parsed m k (i + 1) (drop (i + 1) bs)) ≡ fed A parsed m k i (drop i bs) (contents c.loop-place.sheet) c.loop-place.text c.loop-place.work) c.in-ok-feed-byte.was more ∙ now.0,
-      c.feed-byte.ensures.keeps.0 ∙ now.1,
-      c.feed-byte.ensures.keeps.1 ∙ now.2,
+    let s = contents c.feed_byte.new.sheet in
+    let t = c.feed_byte.new.text in
+    let v = c.feed_byte.new.work in
+    let more = fed-more A parsed m k bs i (contents c.loop-place.sheet) s c.loop-place.text t c.loop-place.work v c.feed_byte.result _ _ c.loop-place-test.true (ap g.S.Automaton.model now.2) now.1 c.feed_byte.ensures.fed in (
+      subst (λ r. go_on r s t v (fed A parsed m k (i + 1) (drop (i + 1) bs)) ≡ fed A parsed m k i (drop i bs) (contents c.loop-place.sheet) c.loop-place.text c.loop-place.work) c.in_ok-feed_byte.was more ∙ now.0,
+      c.feed_byte.ensures.keeps.0 ∙ now.1,
+      c.feed_byte.ensures.keeps.1 ∙ now.2,
     )
 
-pub returns-in-err-feed-byte : goal.returns-in-err-feed-byte
-returns-in-err-feed-byte g c =
+pub returns-in_err-feed_byte : goal.returns-in_err-feed_byte
+returns-in_err-feed_byte g c =
     let A = g.S.Kind.Letter.alphabet in
     let parsed = g.S.Kind.Printable.parsed in
     let m = g.S.Automaton.model c.args.sheet.now.automaton in
@@ -32,18 +32,18 @@ returns-in-err-feed-byte g c =
     let bs = c.args.trace.now in
     let i = c.loop-place.place in
     let now = c.loop-place.invariant in
-    let s = contents c.feed-byte.new.sheet in
-    let t = c.feed-byte.new.text in
-    let v = c.feed-byte.new.work in
-    let was = c.in-err-feed-byte.was in
-    let p = err_from_is_err_and c.from-residual.result c.from-residual.ensures.1 in
-    let more = fed-more A parsed m k bs i (contents c.loop-place.sheet) s c.loop-place.text t c.loop-place.work v c.feed-byte.result _ _ c.loop-place-test.true (ap g.S.Automaton.model now.2) now.1 c.feed-byte.ensures.fed in
+    let s = contents c.feed_byte.new.sheet in
+    let t = c.feed_byte.new.text in
+    let v = c.feed_byte.new.work in
+    let was = c.in_err-feed_byte.was in
+    let p = err_from_is_err_and c.from_residual.result c.from_residual.ensures.1 in
+    let more = fed-more A parsed m k bs i (contents c.loop-place.sheet) s c.loop-place.text t c.loop-place.work v c.feed_byte.result _ _ c.loop-place-test.true (ap g.S.Automaton.model now.2) now.1 c.feed_byte.ensures.fed in
     record {
       fed =
           ap (λ r. fed_as r s t v) (p.1 ∙ ap Err p.2)
           ∙ subst (λ r. go_on r s t v (fed A parsed m k (i + 1) (drop (i + 1) bs)) ≡ fed A parsed m k i (drop i bs) (contents c.loop-place.sheet) c.loop-place.text c.loop-place.work) was more
           ∙ now.0;
-      keeps = (c.feed-byte.ensures.keeps.0 ∙ now.1, c.feed-byte.ensures.keeps.1 ∙ now.2);
+      keeps = (c.feed_byte.ensures.keeps.0 ∙ now.1, c.feed_byte.ensures.keeps.1 ∙ now.2);
     }
 
 pub returns : goal.returns

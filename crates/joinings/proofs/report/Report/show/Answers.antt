@@ -3,4 +3,4 @@ use Rattle.pages.proofs.Writes.{wrote_then}
 use Rattle.joinings.proofs.report.Report.show.Goals as goal
 
 pub returns : goal.returns
-returns g c = wrote_then _ refl c.show-kind.ensures (wrote_then _ refl c.labelled.ensures (wrote_then _ refl c.show-limit.ensures (wrote_then _ refl c.show-automaton.ensures c.show-joined.ensures)))
+returns g c = wrote_then _ refl c.show_kind.ensures (wrote_then _ refl c.labelled.ensures (wrote_then _ refl c.show_limit.ensures (wrote_then _ refl c.show_automaton.ensures c.show_joined.ensures)))
