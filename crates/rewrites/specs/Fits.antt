@@ -1,14 +1,18 @@
 -- Sheets that fit in memory, for the letters of a kind T. Assumes nothing.
 --
---   Roomy R     a value of the type R takes fewer than 2 ^ 63 bytes; a generic function that makes a sheet must know it
---   alone T     the sheet on a list
---   paired T    the sheet on the pair of a list and a run automaton
+--   Roomy R        a value of the type R takes fewer than 2 ^ 63 bytes; a generic function that makes a sheet must know it
+--   alone T v g    the sheet on a list
+--   paired T v g   the sheet on the pair of a list and a run automaton
+--
+-- v is what the automaton declares as its meaning, and g what the kind T declares of its letters; no size depends on them.
 use Rattle.std.specs.Prelude.{◌^◌, ◌<◌, []}
 use denote.Param.{layout}
 use Rattle.std.specs.Borrow.{RattleType}
 use denote.Ref.{NamedLft}
 use mir.Syntax.{static}
 use prog.Memory.{size}
+use Rattle.automata.specs.declared.Automaton
+use Rattle.letters.specs.declared.kind.Letter
 use Rattle.lists.specs.contracts.listed.Listed.{the_row as listed-row}
 use Rattle.pairs.specs.contracts.Pair.{the_row as pair_row}
 use Rattle.runs.specs.contracts.Run.{the_row as run_row}
@@ -21,8 +25,8 @@ Roomy R = size (layout R) < 2 ^ 63
 abbrev lifetime : NamedLft
 lifetime = record { mir = static; lft = [] }
 
-abbrev pub alone : RattleType → RattleType
-alone T = sheet-row (listed-row lifetime T) T
+abbrev pub alone : (T : RattleType) → Automaton.Ghosts (listed-row lifetime T).Denot T.Denot → Letter.Ghosts T.Denot → RattleType
+alone T v g = sheet-row (listed-row lifetime T) T v g
 
-abbrev pub paired : RattleType → RattleType
-paired T = sheet-row (pair_row (listed-row lifetime T) (run_row T)) T
+abbrev pub paired : (T : RattleType) → Automaton.Ghosts (pair_row (listed-row lifetime T) (run_row T)).Denot T.Denot → Letter.Ghosts T.Denot → RattleType
+paired T v g = sheet-row (pair_row (listed-row lifetime T) (run_row T)) T v g

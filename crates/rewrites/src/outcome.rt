@@ -10,12 +10,15 @@ ghost use Rattle.rewritelaw.specs.Outcomes.{body as body_of, told, outcome, prin
 
 use crate::report::show;
 use crate::settings::rewrite_limited;
+use automata::Automaton;
 use files::refusals::at_line;
 use files::{Lines, Refusal};
 use letters::{Letter, Printable, Seepage, Trend, Two};
 use listings::read;
-use lists::{Builder, Record};
+use lists::{Builder, Listed, Record};
 use pages::Page;
+use pairs::Pair;
+use runs::Run;
 use sheetlaw::Counts;
 use stations::{Kind, early, header, tail};
 
@@ -39,8 +42,8 @@ fn body<L: Printable>(
     text: &mut [L],
     work: &mut [u16],
 ) -> Result<Counts, Refusal>
-    requires alone { Roomy (alone L.row) }
-    requires paired { Roomy (paired L.row) }
+    requires alone { Roomy (alone L.row ⟦<Listed<'static, L> as Automaton>⟧ L.Letter) }
+    requires paired { Roomy (paired L.row ⟦<Pair<Listed<'static, L>, Run<L>> as Automaton>⟧ L.Letter) }
     ensures { left_as result text.new work.new ≡ body_of L.Letter.alphabet L.Printable.parsed (length records.old) (length words.old) text.old work.old (lines.old.number + 1) (items lines.old.rest.now) }
 {
     let mut list = Builder::<L>::start(records, words);
@@ -65,8 +68,8 @@ fn print_body<L: Printable>(
     work: &mut [u16],
     page: &mut Page<'_>,
 ) -> bool
-    requires alone { Roomy (alone L.row) }
-    requires paired { Roomy (paired L.row) }
+    requires alone { Roomy (alone L.row ⟦<Listed<'static, L> as Automaton>⟧ L.Letter) }
+    requires paired { Roomy (paired L.row ⟦<Pair<Listed<'static, L>, Run<L>> as Automaton>⟧ L.Letter) }
     ensures page { Wrote page.old page.new (printed_of (told L.Letter.alphabet L.Printable.printed (body_of L.Letter.alphabet L.Printable.parsed (length records.old) (length words.old) text.old work.old (lines.old.number + 1) (items lines.old.rest.now)).answer (body_of L.Letter.alphabet L.Printable.parsed (length records.old) (length words.old) text.old work.old (lines.old.number + 1) (items lines.old.rest.now)).table)) }
     ensures written { result ≡ is_written (told L.Letter.alphabet L.Printable.printed (body_of L.Letter.alphabet L.Printable.parsed (length records.old) (length words.old) text.old work.old (lines.old.number + 1) (items lines.old.rest.now)).answer (body_of L.Letter.alphabet L.Printable.parsed (length records.old) (length words.old) text.old work.old (lines.old.number + 1) (items lines.old.rest.now)).table) }
     ensures text { text.new ≡ (body_of L.Letter.alphabet L.Printable.parsed (length records.old) (length words.old) text.old work.old (lines.old.number + 1) (items lines.old.rest.now)).table }

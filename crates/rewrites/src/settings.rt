@@ -27,7 +27,7 @@ pub(crate) fn rewrite<S: Automaton + Drop>(
 ) -> Result<Counts, Fault>
 where
     S::Kind: Printable,
-    requires { Roomy (sheet-row S.row S.Kind.row) }
+    requires { Roomy (sheet-row S.row S.Kind.row S.Automaton S.Kind.Letter) }
     ensures { left_as result text.new work.new ≡ rewritten S.Kind.Letter.alphabet S.Kind.Printable.parsed (S.model automaton) k trace.now text.old work.old }
 {
     let mut sheet = Sheet::open(automaton, k)?;
@@ -46,7 +46,7 @@ fn rewrite_both<P: Automaton + Drop, Q: Automaton<Kind = P::Kind> + Drop>(
 ) -> Result<Counts, Fault>
 where
     P::Kind: Printable,
-    requires { Roomy (sheet-row (pair_row P.row Q.row) P.Kind.row) }
+    requires { Roomy (sheet-row (pair_row P.row Q.row) P.Kind.row ⟦<Pair<P, Q> as Automaton>⟧ P.Kind.Letter) }
     ensures { left_as result text.new work.new ≡ unless_refused (paired_up (P.Automaton.model left) (Q.Automaton.model right)) text.old work.old (λ m. rewritten P.Kind.Letter.alphabet P.Kind.Printable.parsed m k trace.now text.old work.old) }
 {
     let pair = Pair::new(left, right)?;
@@ -64,8 +64,8 @@ pub(crate) fn rewrite_limited<P: Automaton + Drop>(
 ) -> Result<Counts, Fault>
 where
     P::Kind: Printable,
-    requires alone { Roomy (sheet-row P.row P.Kind.row) }
-    requires paired { Roomy (sheet-row (pair_row P.row (run_row P.Kind.row)) P.Kind.row) }
+    requires alone { Roomy (sheet-row P.row P.Kind.row P.Automaton P.Kind.Letter) }
+    requires paired { Roomy (sheet-row (pair_row P.row (run_row P.Kind.row)) P.Kind.row ⟦<Pair<P, Run<P::Kind>> as Automaton>⟧ P.Kind.Letter) }
     ensures { left_as result text.new work.new ≡ unless_refused (limited (P.model automaton) P.Kind.Letter.alphabet limit Ok) text.old work.old (λ m. rewritten P.Kind.Letter.alphabet P.Kind.Printable.parsed m k trace.now text.old work.old) }
 {
     match limit {
