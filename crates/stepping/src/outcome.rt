@@ -7,12 +7,15 @@ ghost use Rattle.stepping.specs.Outcomes.{Told, body, outcome, file_printed, fil
 
 use crate::report::Heading;
 use crate::settings::{show_refusal, step_limited};
+use automata::Automaton;
 use files::Lines;
 use letters::{Letter, Printable, Seepage, Trend, Two};
 use listings::read;
-use lists::{Builder, Record};
+use lists::{Builder, Listed, Record};
 use pages::Page;
+use pairs::Pair;
 use rewrites::outcome::{INPUT, WINDOW};
+use runs::Run;
 use stations::{Kind, early, header};
 
 // How much was written, and whether every letter and gap of the trace was taken.
@@ -32,8 +35,8 @@ fn step_body<L: Printable>(
     work: &mut [u16],
     page: &mut Page<'_>,
 ) -> bool
-    requires alone { Roomy (alone L.row) }
-    requires paired { Roomy (paired L.row) }
+    requires alone { Roomy (alone L.row ⟦<Listed<'static, L> as Automaton>⟧ L.Letter) }
+    requires paired { Roomy (paired L.row ⟦<Pair<Listed<'static, L>, Run<L>> as Automaton>⟧ L.Letter) }
     ensures { Told L.Letter.alphabet L.Printable.printed page.old page.new text.old text.new work.old work.new result (body kind L.Letter.alphabet L.Printable.parsed (length records.old) (length words.old) text.old work.old (lines.old.number + 1) (items lines.old.rest.now)) }
 {
     let mut list = Builder::<L>::start(records, words);

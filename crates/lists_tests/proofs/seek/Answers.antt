@@ -6,10 +6,10 @@ use Rattle.models.specs.Strings.{Occurs}
 use Rattle.models.proofs.Walks.{stops-none}
 use Rattle.lists_tests.proofs.seek.Goals as goal
 
-pub returns-in-err-add : goal.returns-in-err-add
-returns-in-err-add g c =
-    let p = err_from_is_err_and c.from-residual.result c.from-residual.ensures.1 in
-    rw (p.1, p.2) (record { found = tt; refused = c.in-err-add.ensures.cause _ _ [] c.start-list.ensures })
+pub returns-in_err-add : goal.returns-in_err-add
+returns-in_err-add g c =
+    let p = err_from_is_err_and c.from_residual.result c.from_residual.ensures.1 in
+    rw (p.1, p.2) (record { found = tt; refused = c.in_err-add.ensures.cause _ _ [] c.start-list.ensures })
 
 -- a string that is stopped nowhere passes
 later-none : (o : Option ℕ) → later o ≡ None → o ≡ None
@@ -38,7 +38,7 @@ returns g c =
     let A = g.L.Letter.alphabet in
     let p = c.args.pattern.now in
     let xs = c.args.text.now in
-    let means = c.finish-done.ensures.means _ _ (p ∷ []) (c.in-ok-add.ensures.holds _ _ [] c.start-list.ensures) in
+    let means = c.finish-done.ensures.means _ _ (p ∷ []) (c.in_ok-add.ensures.holds _ _ [] c.start-list.ensures) in
     let has : Has (p ∷ []) p = (0, omega arith, λ d. refl) in
     record {
       found = (
@@ -48,5 +48,5 @@ returns g c =
             let s = some_is _ w in
             c.check.ensures ∙ stops-none _ _ s.0 xs s.1),
       );
-      refused = c.in-ok-add.ensures.cause _ _ [] c.start-list.ensures;
+      refused = c.in_ok-add.ensures.cause _ _ [] c.start-list.ensures;
     }

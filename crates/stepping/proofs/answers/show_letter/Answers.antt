@@ -5,6 +5,6 @@ use Rattle.stepping.proofs.answers.show_letter.Goals as goal
 
 pub returns : goal.returns
 returns c = record {
-  page = wrote_then _ refl c.labelled.ensures (wrote_then (c.args.byte ∷ letter_part c.args.answer) refl c.push.ensures c.end-letter.ensures.page);
-  taken = c.end-letter.ensures.taken;
+  page = wrote_then _ refl c.labelled.ensures (wrote_then (c.args.byte ∷ letter_part c.args.answer) refl c.push.ensures c.end_letter.ensures.page);
+  taken = c.end_letter.ensures.taken;
 }

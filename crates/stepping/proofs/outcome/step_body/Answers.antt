@@ -11,10 +11,10 @@ returns-in-Ok g c =
     let n = length c.args.records.now in
     let w = length c.args.words.now in
     let lines = c.args.lines.now in
-    let last = c.step-limited.new in
+    let last = c.step_limited.new in
     let whole = body-read A g.L.Printable.parsed c.args.kind n w c.args.text.now c.args.work.now (lines.number + 1) (items lines.rest.now) c.read.result c.read.new.lines.number c.read.new.lines.rest.now c.read.new.list (c.read.ensures.answer n w [] c.start-list.ensures)
-    c.in-Ok.preface c.in-Ok.is c.finish-listed.result c.finish-listed.ensures.means c.finish-listed.ensures.taken c.patterns.result c.unwrap-or.result c.patterns.ensures c.unwrap-or.ensures in
-    subst (Told A g.L.Printable.printed c.args.page.now last.page c.args.text.now last.text c.args.work.now last.work c.step-limited.result) whole c.step-limited.ensures
+    c.in-Ok.preface c.in-Ok.is c.finish-listed.result c.finish-listed.ensures.means c.finish-listed.ensures.taken c.patterns.result c.unwrap_or.result c.patterns.ensures c.unwrap_or.ensures in
+    subst (Told A g.L.Printable.printed c.args.page.now last.page c.args.text.now last.text c.args.work.now last.work c.step_limited.result) whole c.step_limited.ensures
 
 pub returns-in-Err : goal.returns-in-Err
 returns-in-Err g c =
@@ -23,6 +23,6 @@ returns-in-Err g c =
     let w = length c.args.words.now in
     let lines = c.args.lines.now in
     let parsed = g.L.Printable.parsed in
-    told-refused A g.L.Printable.printed c.args.page.now c.show-refusal.new.page c.args.text.now c.args.work.now c.show-refusal.result c.show-refusal.ensures.answer c.in-Err.refusal c.show-refusal.ensures.page
+    told-refused A g.L.Printable.printed c.args.page.now c.show_refusal.new.page c.args.text.now c.args.work.now c.show_refusal.result c.show_refusal.ensures.answer c.in-Err.refusal c.show_refusal.ensures.page
     (body c.args.kind A parsed n w c.args.text.now c.args.work.now (lines.number + 1) (items lines.rest.now))
     (body_unread A parsed c.args.kind n w c.args.text.now c.args.work.now (lines.number + 1) (items lines.rest.now) c.read.result c.read.new.lines.number c.read.new.lines.rest.now c.read.new.list (c.read.ensures.answer n w [] c.start-list.ensures) c.in-Err.refusal c.in-Err.is)

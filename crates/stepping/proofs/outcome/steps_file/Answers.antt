@@ -3,7 +3,7 @@ use Rattle.stepping.proofs.outcome.steps_file.Goals as goal
 
 pub returns : goal.returns
 returns c =
-    let done = c.step-lines-complete.ensures in
+    let done = c.step_lines-complete.ensures in
     let text = done.page.text [] c.args.out.now c.new-page.ensures.fresh in
     let same = done.page.page ∙ c.new-page.ensures.page in
     record {

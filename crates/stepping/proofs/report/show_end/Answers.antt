@@ -6,5 +6,5 @@ use Rattle.stepping.proofs.report.show_end.Goals as goal
 pub returns : goal.returns
 returns g c =
     let f = λ (x : g.row.L.Denot). g.L.Printable.printed (g.L.Letter.alphabet.number x) in
-    let rest = wrote_then (10 ∷ count_lines c.args.counts) refl c.push.ensures c.show-counts.ensures in
-    wrote_then _ refl c.put.ensures (wrote_then _ refl (wrote_is _ (ap (map f) c.front.ensures) c.show-letters.ensures) rest)
+    let rest = wrote_then (10 ∷ count_lines c.args.counts) refl c.push.ensures c.show_counts.ensures in
+    wrote_then _ refl c.put.ensures (wrote_then _ refl (wrote_is _ (ap (map f) c.front.ensures) c.show_letters.ensures) rest)

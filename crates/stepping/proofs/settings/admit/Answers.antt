@@ -11,8 +11,8 @@ use Rattle.stepping.specs.OnSheets.{Fresh}
 use Rattle.stepping.proofs.Admitting.{admitted_is, opened_is}
 use Rattle.stepping.proofs.settings.admit.Goals as goal
 
-pub returns-in-err-sheet : goal.returns-in-err-sheet
-returns-in-err-sheet g c =
+pub returns-in_err-sheet : goal.returns-in_err-sheet
+returns-in_err-sheet g c =
     let reads = reading g.S.Kind.Letter.alphabet g.S.Kind.Printable.parsed in
     let bs = c.args.trace.now in
     let lines = c.args.lines.now in
@@ -20,44 +20,44 @@ returns-in-err-sheet g c =
     let b = at_line z c.number-line.result in
     let y = ended (lines.number + 1) (items lines.rest.now) in
     let whole = admitted_is (g.S.Automaton.model c.args.automaton) c.args.k reads bs lines.number (items lines.rest.now) c.open.result contents _ (λ s h. h.0) c.open.ensures c.number-line.result c.number-line.ensures c.at_line.result c.at_line.ensures z refl b refl y refl in
-    let p = err_from_is_err_and c.from-residual.result c.from-residual.ensures.1 in
+    let p = err_from_is_err_and c.from_residual.result c.from_residual.ensures.1 in
     record {
-      judged = ap verdict (p.1 ∙ ap Err p.2) ∙ sym (ap (λ a. and_then a (λ _. and_then b (λ _. y))) c.in-err-sheet.was) ∙ whole;
-      opened = IfOk-from_err c.from-residual.result (Fresh g.S.Kind.Letter.alphabet g.S.Automaton.model c.args.automaton c.args.k) c.from-residual.ensures.0;
+      judged = ap verdict (p.1 ∙ ap Err p.2) ∙ sym (ap (λ a. and_then a (λ _. and_then b (λ _. y))) c.in_err-sheet.was) ∙ whole;
+      opened = IfOk-from_err c.from_residual.result (Fresh g.S.Kind.Letter.alphabet g.S.Automaton.model c.args.automaton c.args.k) c.from_residual.ensures.0;
     }
 
-pub returns-in-err-at-line : goal.returns-in-err-at-line
-returns-in-err-at-line g c =
+pub returns-in_err-at_line : goal.returns-in_err-at_line
+returns-in_err-at_line g c =
     let reads = reading g.S.Kind.Letter.alphabet g.S.Kind.Printable.parsed in
     let bs = c.args.trace.now in
     let lines = c.args.lines.now in
     let y = ended (lines.number + 1) (items lines.rest.now) in
-    let whole = admitted_is (g.S.Automaton.model c.args.automaton) c.args.k reads bs lines.number (items lines.rest.now) c.open.result contents _ (λ s h. h.0) c.open.ensures c.number-line.result c.number-line.ensures c.at_line.result c.at_line.ensures c.check-trace.result c.check-trace.ensures c.at-line-2.result c.at-line-2.ensures y refl in
-    let p = err_from_is_err_and c.from-residual-in-err-at-line.result c.from-residual-in-err-at-line.ensures.1 in
+    let whole = admitted_is (g.S.Automaton.model c.args.automaton) c.args.k reads bs lines.number (items lines.rest.now) c.open.result contents _ (λ s h. h.0) c.open.ensures c.number-line.result c.number-line.ensures c.at_line.result c.at_line.ensures c.check_trace.result c.check_trace.ensures c.at_line-2.result c.at_line-2.ensures y refl in
+    let p = err_from_is_err_and c.from_residual-in_err-at_line.result c.from_residual-in_err-at_line.ensures.1 in
     record {
       judged =
           ap verdict (p.1 ∙ ap Err p.2)
-          ∙ sym (ap (λ b. and_then b (λ _. y)) c.in-err-at-line.was)
-          ∙ sym (ap (λ a. and_then a (λ _. and_then c.at-line-2.result (λ _. y))) c.in-ok-sheet.was)
+          ∙ sym (ap (λ b. and_then b (λ _. y)) c.in_err-at_line.was)
+          ∙ sym (ap (λ a. and_then a (λ _. and_then c.at_line-2.result (λ _. y))) c.in_ok-sheet.was)
           ∙ whole;
-      opened = IfOk-from_err c.from-residual-in-err-at-line.result (Fresh g.S.Kind.Letter.alphabet g.S.Automaton.model c.args.automaton c.args.k) c.from-residual-in-err-at-line.ensures.0;
+      opened = IfOk-from_err c.from_residual-in_err-at_line.result (Fresh g.S.Kind.Letter.alphabet g.S.Automaton.model c.args.automaton c.args.k) c.from_residual-in_err-at_line.ensures.0;
     }
 
-pub returns-in-err-tail : goal.returns-in-err-tail
-returns-in-err-tail g c =
+pub returns-in_err-tail : goal.returns-in_err-tail
+returns-in_err-tail g c =
     let reads = reading g.S.Kind.Letter.alphabet g.S.Kind.Printable.parsed in
     let bs = c.args.trace.now in
     let lines = c.args.lines.now in
-    let whole = admitted_is (g.S.Automaton.model c.args.automaton) c.args.k reads bs lines.number (items lines.rest.now) c.open.result contents _ (λ s h. h.0) c.open.ensures c.number-line.result c.number-line.ensures c.at_line.result c.at_line.ensures c.check-trace.result c.check-trace.ensures c.at-line-2.result c.at-line-2.ensures c.tail.result c.tail.ensures.answer in
-    let p = err_from_is_err_and c.from-residual-in-err-tail.result c.from-residual-in-err-tail.ensures.1 in
+    let whole = admitted_is (g.S.Automaton.model c.args.automaton) c.args.k reads bs lines.number (items lines.rest.now) c.open.result contents _ (λ s h. h.0) c.open.ensures c.number-line.result c.number-line.ensures c.at_line.result c.at_line.ensures c.check_trace.result c.check_trace.ensures c.at_line-2.result c.at_line-2.ensures c.tail.result c.tail.ensures.answer in
+    let p = err_from_is_err_and c.from_residual-in_err-tail.result c.from_residual-in_err-tail.ensures.1 in
     record {
       judged =
           ap verdict (p.1 ∙ ap Err p.2)
-          ∙ sym c.in-err-tail.was
-          ∙ sym (ap (λ b. and_then b (λ _. c.tail.result)) c.in-ok-at-line.was)
-          ∙ sym (ap (λ a. and_then a (λ _. and_then c.at-line-2.result (λ _. c.tail.result))) c.in-ok-sheet.was)
+          ∙ sym c.in_err-tail.was
+          ∙ sym (ap (λ b. and_then b (λ _. c.tail.result)) c.in_ok-at_line.was)
+          ∙ sym (ap (λ a. and_then a (λ _. and_then c.at_line-2.result (λ _. c.tail.result))) c.in_ok-sheet.was)
           ∙ whole;
-      opened = IfOk-from_err c.from-residual-in-err-tail.result (Fresh g.S.Kind.Letter.alphabet g.S.Automaton.model c.args.automaton c.args.k) c.from-residual-in-err-tail.ensures.0;
+      opened = IfOk-from_err c.from_residual-in_err-tail.result (Fresh g.S.Kind.Letter.alphabet g.S.Automaton.model c.args.automaton c.args.k) c.from_residual-in_err-tail.ensures.0;
     }
 
 pub returns : goal.returns
@@ -65,13 +65,13 @@ returns g c =
     let reads = reading g.S.Kind.Letter.alphabet g.S.Kind.Printable.parsed in
     let bs = c.args.trace.now in
     let lines = c.args.lines.now in
-    let whole = admitted_is (g.S.Automaton.model c.args.automaton) c.args.k reads bs lines.number (items lines.rest.now) c.open.result contents _ (λ s h. h.0) c.open.ensures c.number-line.result c.number-line.ensures c.at_line.result c.at_line.ensures c.check-trace.result c.check-trace.ensures c.at-line-2.result c.at-line-2.ensures c.tail.result c.tail.ensures.answer in
-    let o = opened_is (g.S.Automaton.model c.args.automaton) c.args.k reads bs lines.number (items lines.rest.now) c.open.result contents _ (λ s h. h.0) c.open.ensures c.number-line.result c.at_line.result c.at_line.ensures c.in-ok-sheet.sheet c.in-ok-sheet.was in
+    let whole = admitted_is (g.S.Automaton.model c.args.automaton) c.args.k reads bs lines.number (items lines.rest.now) c.open.result contents _ (λ s h. h.0) c.open.ensures c.number-line.result c.number-line.ensures c.at_line.result c.at_line.ensures c.check_trace.result c.check_trace.ensures c.at_line-2.result c.at_line-2.ensures c.tail.result c.tail.ensures.answer in
+    let o = opened_is (g.S.Automaton.model c.args.automaton) c.args.k reads bs lines.number (items lines.rest.now) c.open.result contents _ (λ s h. h.0) c.open.ensures c.number-line.result c.at_line.result c.at_line.ensures c.in_ok-sheet.sheet c.in_ok-sheet.was in
     record {
       judged =
-          sym c.in-ok-tail.was
-          ∙ sym (ap (λ b. and_then b (λ _. c.tail.result)) c.in-ok-at-line.was)
-          ∙ sym (ap (λ a. and_then a (λ _. and_then c.at-line-2.result (λ _. c.tail.result))) c.in-ok-sheet.was)
+          sym c.in_ok-tail.was
+          ∙ sym (ap (λ b. and_then b (λ _. c.tail.result)) c.in_ok-at_line.was)
+          ∙ sym (ap (λ a. and_then a (λ _. and_then c.at_line-2.result (λ _. c.tail.result))) c.in_ok-sheet.was)
           ∙ whole;
       opened = (o.1, o.2, o.3);
     }

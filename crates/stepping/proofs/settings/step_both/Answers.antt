@@ -13,7 +13,7 @@ returns-in-Ok g c =
     let n = (g.P.Automaton.model c.args.left).count * (g.Q.Automaton.model c.args.right).count in
     let go = λ (u : g.row.P.Denot) (v : g.row.Q.Denot). steps A c.args.text.now c.args.work.now (pair_model (g.P.Automaton.model u) (g.Q.Automaton.model v)) c.args.heading.window (reading A g.P.Kind.Printable.parsed) c.args.trace.now in
     let e = c.in-Ok.ensures.made in
-    told_as c.args.heading.kind c.args.heading.patterns c.args.heading.limit c.args.lines.now.number (items c.args.lines.now.rest.now) (ap (λ u. go u c.in-Ok.pair.right) e.0 ∙ ap (λ v. go c.args.left v) e.1 ∙ paired_good n (go c.args.left c.args.right) e.2) c.step-under.ensures
+    told_as c.args.heading.kind c.args.heading.patterns c.args.heading.limit c.args.lines.now.number (items c.args.lines.now.rest.now) (ap (λ u. go u c.in-Ok.pair.right) e.0 ∙ ap (λ v. go c.args.left v) e.1 ∙ paired_good n (go c.args.left c.args.right) e.2) c.step_under.ensures
 
 pub returns-in-Err : goal.returns-in-Err
 returns-in-Err g c =
@@ -23,5 +23,5 @@ returns-in-Err g c =
     let n = (g.P.Automaton.model c.args.left).count * (g.Q.Automaton.model c.args.right).count in
     let go = steps A c.args.text.now c.args.work.now (pair_model (g.P.Automaton.model c.args.left) (g.Q.Automaton.model c.args.right)) head.window (reading A g.P.Kind.Printable.parsed) c.args.trace.now in
     let e = c.in-Err.ensures.made in
-    told_unsettled A g.P.Kind.Printable.printed c.args.page.now c.show-refusal.new.page c.args.text.now c.args.work.now c.show-refusal.result c.show-refusal.ensures.answer
-    head.kind head.patterns head.limit lines.number (items lines.rest.now) _ c.in-Err.fault (paired_bad n go c.in-Err.fault e.0 e.1) c.number.result c.number.ensures c.show-refusal.ensures.page
+    told_unsettled A g.P.Kind.Printable.printed c.args.page.now c.show_refusal.new.page c.args.text.now c.args.work.now c.show_refusal.result c.show_refusal.ensures.answer
+    head.kind head.patterns head.limit lines.number (items lines.rest.now) _ c.in-Err.fault (paired_bad n go c.in-Err.fault e.0 e.1) c.number.result c.number.ensures c.show_refusal.ensures.page

@@ -13,7 +13,7 @@ returns-in-Ok g c =
     let A = g.P.Kind.Letter.alphabet in
     let go = λ (m : Model g.row.P-Kind.Denot). steps A c.args.text.now c.args.work.now m c.args.heading.window (reading A g.P.Kind.Printable.parsed) c.args.trace.now in
     let e = c.in-Ok.ensures.made in
-    told_as c.args.heading.kind c.args.heading.patterns c.args.heading.limit c.args.lines.now.number (items c.args.lines.now.rest.now) (limited-run A (g.P.Automaton.model c.args.automaton) go c.args.heading.limit c.in-Some.r c.in-Some.is c.in-Ok.run'.limit e.0 e.1 e.2) c.step-both.ensures
+    told_as c.args.heading.kind c.args.heading.patterns c.args.heading.limit c.args.lines.now.number (items c.args.lines.now.rest.now) (limited-run A (g.P.Automaton.model c.args.automaton) go c.args.heading.limit c.in-Some.r c.in-Some.is c.in-Ok.run'.limit e.0 e.1 e.2) c.step_both.ensures
 
 pub returns-in-Err : goal.returns-in-Err
 returns-in-Err g c =
@@ -22,11 +22,11 @@ returns-in-Err g c =
     let lines = c.args.lines.now in
     let go = λ (m : Model g.row.P-Kind.Denot). steps A c.args.text.now c.args.work.now m head.window (reading A g.P.Kind.Printable.parsed) c.args.trace.now in
     let e = c.in-Err.ensures.made in
-    told_unsettled A g.P.Kind.Printable.printed c.args.page.now c.show-refusal.new.page c.args.text.now c.args.work.now c.show-refusal.result c.show-refusal.ensures.answer
-    head.kind head.patterns head.limit lines.number (items lines.rest.now) _ c.in-Err.fault (limited_bad A (g.P.Automaton.model c.args.automaton) go head.limit c.in-Some.r c.in-Some.is c.in-Err.fault e.0 e.1) c.number.result c.number.ensures c.show-refusal.ensures.page
+    told_unsettled A g.P.Kind.Printable.printed c.args.page.now c.show_refusal.new.page c.args.text.now c.args.work.now c.show_refusal.result c.show_refusal.ensures.answer
+    head.kind head.patterns head.limit lines.number (items lines.rest.now) _ c.in-Err.fault (limited_bad A (g.P.Automaton.model c.args.automaton) go head.limit c.in-Some.r c.in-Some.is c.in-Err.fault e.0 e.1) c.number.result c.number.ensures c.show_refusal.ensures.page
 
 pub returns-in-None : goal.returns-in-None
 returns-in-None g c =
     let A = g.P.Kind.Letter.alphabet in
     let go = λ (m : Model g.row.P-Kind.Denot). steps A c.args.text.now c.args.work.now m c.args.heading.window (reading A g.P.Kind.Printable.parsed) c.args.trace.now in
-    told_as c.args.heading.kind c.args.heading.patterns c.args.heading.limit c.args.lines.now.number (items c.args.lines.now.rest.now) (sym (ap (λ o. limited (g.P.Automaton.model c.args.automaton) A o go) c.in-None.is)) c.step-under.ensures
+    told_as c.args.heading.kind c.args.heading.patterns c.args.heading.limit c.args.lines.now.number (items c.args.lines.now.rest.now) (sym (ap (λ o. limited (g.P.Automaton.model c.args.automaton) A o go) c.in-None.is)) c.step_under.ensures

@@ -4,7 +4,7 @@ use Rattle.texts.specs.Texts.{reading}
 use Rattle.stepping.specs.Steps.{event, events}
 use Rattle.stepping.proofs.Traces.{past-none, past_more, past-at, events-with, events-without}
 use Rattle.stepping.proofs.trace.step_through.Goals as goal
-use Rattle.stepping.proofs.trace.step_through.Goals.{in-Some, in-default}
+use Rattle.stepping.proofs.trace.step_through.Goals.{in-Some, in_default}
 
 pub loop-byte-init : goal.loop-byte-init
 loop-byte-init g c =
@@ -24,18 +24,18 @@ loop-byte-preserved g c =
     let i = c.loop-byte.byte-index in
     let l = c.loop-byte in
     let inv = c.loop-byte.invariant.0 in
-    elim c.match-read-event.branch [
+    elim c.match-read_event.branch [
       | in-Some w ↦
           let e = w.in-Some.event in
           let done = w.step-taken.ensures in
           let last = w.step-taken.new in
-          let now = events-with reads bs i c.loop-byte-test.true e (sym c.read-event.ensures ∙ w.in-Some.is) in
+          let now = events-with reads bs i c.loop-byte-test.true e (sym c.read_event.ensures ∙ w.in-Some.is) in
           let past = past_more A printed M s0 t0 w0 p0 (events reads (take i bs)) l.sheet l.text l.work l.page l.place l.all inv e
           last.sheet last.text last.work last.page w.step-taken.result w.both-all.result (l.place + 1)
           done.page done.taken done.work done.keeps.0 done.keeps.1 done.stands w.both-all.ensures refl in
           (past-at A printed M s0 t0 w0 p0 now w.sheet-is w.text-is w.work-is w.page-is w.place-is w.all-is past, omega (arith, w.place-is, c.loop-byte.invariant.1))
-      | in-default w ↦
-          let now = events-without reads bs i c.loop-byte-test.true (sym c.read-event.ensures ∙ w.in-default.is) in
+      | in_default w ↦
+          let now = events-without reads bs i c.loop-byte-test.true (sym c.read_event.ensures ∙ w.in_default.is) in
           (past-at A printed M s0 t0 w0 p0 now w.sheet-is w.text-is w.work-is w.page-is w.place-is w.all-is inv, omega (arith, w.place-is, c.loop-byte.invariant.1))
     ]
 
