@@ -1,5 +1,5 @@
 -- What the body of a file comes to, once it is read up to its trace. Assumes nothing.
-use Rattle.std.proofs.Common.{◌≡◌, ℕ, ◌+◌, List, [], length, Ok, Err, Option, Result, sym, refl, ap, ◌∙◌, subst}
+use Rattle.std.proofs.Common.{◌≡◌, ℕ, ◌+◌, List, [], length, Ok, Option, Result, sym, ap, ◌∙◌, subst}
 use Rattle.models.specs.Alphabet.{Alphabet}
 use Rattle.models.specs.Automaton.{Model}
 use Rattle.faults.specs.declared.Fault.{Fault}
@@ -22,7 +22,6 @@ use Rattle.listings.proofs.Prefaces.{read_ok}
 use Rattle.checks.specs.Reports.{finding}
 use Rattle.checks.specs.Outcomes.{report_of, judged, body}
 use Rattle.checks.specs.declared.report.Finding.{Finding}
-use Rattle.checks.specs.declared.report.Report.{Report}
 
 module _ {K : Type 0} (A : Alphabet K) (parsed : ℕ → Option ℕ) (kind : Kind) (n w l : ℕ) (xs : List Item) (x : Listing K) (e : listed A (reading A parsed) n w l fresh [] xs ≡ Ok x) (m : Model K) (em : m ≡ list_model A x.patterns) (r : Preface) (ef : r.form ≡ x.form) (et : r.trace.now ≡ x.trace) (line : ℕ) (el : line ≡ x.line) where
   judged_is : at_line (limited m A r.form.limit (λ u. finding u (reading A parsed) r.trace.now)) line ≡ judged A parsed x

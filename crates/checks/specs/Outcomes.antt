@@ -3,7 +3,7 @@
 --   outcome n w bs   the report on the file bs, or the first refusal in file order; the list's tables have n records and w words
 --   printed r        what is printed of an outcome: the report, or the refusal line
 --   passed r         whether it is a report on a text that passes
-use Rattle.std.specs.Prelude.{ℕ, ◌+◌, Bool, true, false, cond, not, List, [], length, is_some, Some, None, Ok, Err, Option, Result, nat_lt}
+use Rattle.std.specs.Prelude.{ℕ, ◌+◌, Bool, false, cond, not, List, [], length, is_some, Ok, Err, Option, Result, nat_lt}
 use Rattle.models.specs.Alphabet.{Alphabet}
 use Rattle.letters.specs.Two.{two_alphabet, two_parsed}
 use Rattle.letters.specs.Trends.{trend_alphabet, trend_parsed}
@@ -12,7 +12,7 @@ use Rattle.files.specs.Lines.{items}
 use Rattle.files.specs.Refusals.{at_line, refusal_line}
 use Rattle.files.specs.declared.refusals.Refusal.{Refusal}
 use Rattle.texts.specs.Texts.{reading}
-use Rattle.stations.specs.Stations.{Item, early, onward, headed, ended}
+use Rattle.stations.specs.Stations.{Item, early, headed, ended}
 use Rattle.stations.specs.declared.Kind.{Kind}
 use Rattle.stations.specs.declared.Kind.TheVariants.{Two, Trend, Seepage}
 use Rattle.listings.specs.Listings.{Listing, list_model, limited, listed, fresh, and_then}

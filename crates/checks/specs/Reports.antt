@@ -2,7 +2,7 @@
 --
 --   finding m reads bs   what comes of the text bs under the automaton m, unless a byte of it is no letter
 --   shown r                 what is printed of a report, line by line
-use Rattle.std.specs.Prelude.{ℕ, List, [], ◌∷◌, ◌++◌, length, Some, None, Ok, Err, codes, Option, Result}
+use Rattle.std.specs.Prelude.{ℕ, List, [], ◌∷◌, ◌++◌, length, Some, None, Ok, codes, Option, Result}
 use Rattle.std.specs.Option.{unwrap_or}
 use Rattle.models.specs.Automaton.{Model}
 use Rattle.faults.specs.declared.Fault.{Fault}

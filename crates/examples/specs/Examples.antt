@@ -11,7 +11,7 @@
 --   printed_file f              all that is printed of the station file f when it is rewritten, with the program's tables for
 --                    the list, a text table of 16 letters and a work table of 64 words
 --   examples         each example beside what it must come to
-use Rattle.std.specs.Prelude.{◌≡◌, ℕ, ◌*◌, cond, eqb, List, [], ◌∷◌, ◌++◌, map, length, take, replicate, Some, None, Ok, Err, codes, Option, Result}
+use Rattle.std.specs.Prelude.{◌≡◌, ℕ, ◌*◌, List, [], ◌∷◌, map, take, replicate, Some, None, Ok, Err, codes, Option, Result}
 use Prim.Native.String.{String}
 use Rattle.models.specs.Alphabet.{Alphabet}
 use Rattle.models.specs.Automaton.{Model, stopped}

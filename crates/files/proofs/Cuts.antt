@@ -1,8 +1,8 @@
 -- How a file is cut into its lines.
-use Rattle.std.proofs.Common.{◌≡◌, ℕ, zero, suc, ◌+◌, ◌-◌, ◌<◌, ◌≤◌, true, false, eqb, List, [], ◌∷◌, length, get_or, take, drop, sym, refl, ap, ◌∙◌, add-one, arith, rules}
+use Rattle.std.proofs.Common.{◌≡◌, ℕ, zero, suc, ◌+◌, ◌-◌, ◌<◌, true, false, eqb, List, [], ◌∷◌, length, get_or, take, drop, sym, ap, add-one, arith}
 use Rattle.std.proofs.lemmas.List.{take_rest}
 use Rattle.std.proofs.lemmas.Bool.Decides.{nat_tests}
-use Rattle.files.specs.Lines.{lines, longer, said, begun}
+use Rattle.files.specs.Lines.{lines, said, begun}
 
 -- a line that is not empty is its first byte and the rest
 pub said-first : (bs : List ℕ) → 0 < length bs → said bs ≡ begun (get_or bs 0 0) (take (length bs - 1) (drop 1 bs))

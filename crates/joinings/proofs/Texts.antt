@@ -6,7 +6,7 @@ use Rattle.models.specs.Automaton.{Model, stopped}
 use Rattle.faults.specs.declared.Fault.{Fault}
 use Rattle.faults.specs.Causes.{short_text, short_work, long_context}
 use Rattle.joinlaw.specs.Bridges.{Bridge, row, join}
-use Rattle.joins.specs.Answers.{put, appended, passed_or, passed, joined, answer, written}
+use Rattle.joins.specs.Answers.{appended, passed_or, joined, answer, written}
 use Rattle.joins.specs.declared.answers.Joined.{Joined}
 use Rattle.stations.specs.Stations.{bind}
 use Rattle.joinings.specs.Findings.{Found, found, string_of, joining}

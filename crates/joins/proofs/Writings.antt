@@ -1,9 +1,9 @@
 -- What a bridge that was found appends. Assumes nothing.
-use Rattle.std.proofs.Common.{◌≡◌, ℕ, ◌+◌, ◌-◌, ◌^◌, ◌<◌, ◌≤◌, List, [], ◌++◌, length, take, drop, sym, refl, ap, ◌∙◌, append-nil, arith}
+use Rattle.std.proofs.Common.{◌≡◌, ℕ, ◌+◌, ◌^◌, ◌<◌, ◌≤◌, List, ◌++◌, length, take, drop, sym, refl, ap, ◌∙◌, append-nil, arith}
 use borrow.Rule.Slice.PartMut.{put_mid}
 use Rattle.std.proofs.lemmas.List.{length-append, length-drop, take_at, drop_all}
 use Rattle.models.specs.Alphabet.{Alphabet}
-use Rattle.joinlaw.specs.Bridges.{Bridge, row}
+use Rattle.joinlaw.specs.Bridges.{row}
 use Rattle.joins.specs.Spelling.{spelling}
 use Rattle.joins.specs.Ways.{told, added, overlap_of, filled_of, Short, Fit}
 use Rattle.joins.specs.declared.ways.Way.{Way}

@@ -6,7 +6,7 @@
 --   Short v w             that number can be computed
 --   Fit A p l n v w       w can be written from tables of n places, for a right string of v letters
 --   WayIs A p l n v o b   o tells the bridge b, and can be written; or there is none
-use Rattle.std.specs.Prelude.{◌≡◌, ℕ, ◌+◌, ◌-◌, ◌^◌, ◌<◌, ◌≤◌, List, [], length, Some, None, Option}
+use Rattle.std.specs.Prelude.{◌≡◌, ℕ, ◌+◌, ◌-◌, ◌^◌, ◌<◌, ◌≤◌, [], length, Some, None, Option}
 use Rattle.models.specs.Alphabet.{Alphabet}
 use Rattle.joinlaw.specs.Bridges.{Bridge}
 use Rattle.joins.specs.Spelling.{spelling, Traced}

@@ -1,5 +1,5 @@
 -- One piezometer: steady, rise, fall, fast rise, fast fall and scale mark, numbered 0 to 5, written `=`, `+`, `-`, `*`, `/`, `S`. Assumes nothing.
-use Rattle.std.specs.Prelude.{◌≡◌, ℕ, zero, suc, ◌<◌, ◌≤◌, true, false, cond, Some, None, Option, ◌==◌, nat_eq, refl}
+use Rattle.std.specs.Prelude.{◌≡◌, ℕ, zero, suc, ◌<◌, ◌≤◌, false, cond, Some, None, Option, ◌==◌, nat_eq, refl}
 use Rattle.std.proofs.Common.{arith, lit<, lit≤}
 use Rattle.std.proofs.lemmas.Bool.{ne_eqb}
 use Rattle.models.specs.Alphabet.{Alphabet, Numbered, Bears}

@@ -1,5 +1,5 @@
 -- What the body of a file comes to, once it is read up to its trace. Assumes nothing.
-use Rattle.std.proofs.Common.{◌≡◌, ℕ, ◌+◌, List, [], length, Ok, Err, Option, Result, sym, refl, ap, ◌∙◌, subst}
+use Rattle.std.proofs.Common.{◌≡◌, ℕ, ◌+◌, List, [], length, Ok, Option, Result, sym, ap, ◌∙◌, subst}
 use Rattle.models.specs.Alphabet.{Alphabet}
 use Rattle.models.specs.Automaton.{Model}
 use Rattle.faults.specs.declared.Fault.{Fault}

@@ -1,10 +1,10 @@
 -- A finished list is the automaton of its patterns. Assumes nothing.
-use Rattle.std.proofs.Common.{◌≡◌, ℕ, ◌<◌, ◌≤◌, true, false, cond, ltb, List, [], length, get_or, Some, None, Option, sym, refl, ap, ◌∙◌, ⊎_elim, arith}
+use Rattle.std.proofs.Common.{◌≡◌, ℕ, ◌≤◌, cond, List, [], length, get_or, None, sym, refl, ap, ◌∙◌, ⊎_elim, arith}
 use mathlib.Core.Path.{fun_ext}
 use Rattle.std.proofs.lemmas.Bool.{cases_lt, lt-ltb, le-ltb}
 use Rattle.models.specs.Alphabet.{Alphabet}
 use Rattle.models.specs.Automaton.{Model, Next}
-use Rattle.listlaw.specs.Patterns.{coded, states, memory}
+use Rattle.listlaw.specs.Patterns.{coded, states}
 use Rattle.listlaw.specs.Table.{after, Means}
 use Rattle.lists.specs.Meaning.{listed}
 use Rattle.lists.specs.declared.listed.Listed.{Listed}

@@ -1,13 +1,13 @@
 -- A pattern line that is taken. Assumes nothing.
-use Rattle.std.proofs.Common.{◌≡◌, ℕ, ◌+◌, List, [], ◌∷◌, ◌++◌, Some, None, Ok, Err, Option, Result, sym, refl, ap, ◌∙◌, arith}
+use Rattle.std.proofs.Common.{◌≡◌, ℕ, ◌+◌, List, [], ◌∷◌, ◌++◌, None, Ok, Err, Option, Result, sym, refl, ap, ◌∙◌, arith}
 use Rattle.models.specs.Alphabet.{Alphabet}
 use Rattle.faults.specs.declared.Fault.{Fault}
 use Rattle.lists.specs.Taking.{refused, taking}
 use Rattle.lists.specs.Reading.{byte_cause}
 use Rattle.texts.specs.Texts.{spelled}
-use Rattle.stations.specs.Stations.{Item, Handed, a_pattern, bind, onward, take_line}
+use Rattle.stations.specs.Stations.{Item, a_pattern, bind, onward, take_line}
 use Rattle.stations.specs.declared.Form.{Form}
-use Rattle.listings.specs.Listings.{listed, reached, hand, hand_on, further, take_pattern, unless}
+use Rattle.listings.specs.Listings.{listed, reached, hand, hand_on, further, unless}
 
 module _ {K : Type 0} (A : Alphabet K) where
   -- a pattern line that is taken

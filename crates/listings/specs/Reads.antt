@@ -5,7 +5,6 @@
 use Rattle.std.specs.Prelude.{◌≡◌, ℕ, ◌+◌, List, Ok, Err, Result}
 use Rattle.files.specs.Lines.{items}
 use Rattle.files.specs.declared.refusals.Refusal.{Refusal}
-use Rattle.files.specs.declared.lines.Lines.{Lines}
 use Rattle.stations.specs.Stations.{Item}
 use Rattle.listings.specs.Listings.{Listing}
 use Rattle.listings.specs.declared.Preface.{Preface}

@@ -4,7 +4,7 @@ use Rattle.std.proofs.lemmas.Bool.{cond_both, cond-false, le-ltb}
 use Rattle.faults.specs.declared.Fault.{Fault}
 use Rattle.faults.specs.Causes.{no_string, short_text}
 use Rattle.models.specs.Alphabet.{Alphabet}
-use Rattle.models.specs.Automaton.{Model, Passes, walk, stops, stopped}
+use Rattle.models.specs.Automaton.{Model, Passes, walk, stopped}
 use Rattle.models.proofs.Walks.{stops-none}
 use Rattle.joinlaw.specs.Bridges.{Bridge, row, join}
 use Rattle.joinlaw.specs.Laws.{Joins, JoinIs}

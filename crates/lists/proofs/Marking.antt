@@ -1,9 +1,9 @@
 -- A pattern more: its prefixes are entered, and its end is marked. Assumes nothing.
-use Rattle.std.proofs.Common.{◌≡◌, ℕ, zero, suc, ◌+◌, ◌-◌, ◌^◌, ◌<◌, ◌≤◌, max, Bool, true, false, ◌||◌, eqb, ◌⊎◌, List, [], ◌∷◌, ◌++◌, length, get_or, take, set, sym, refl, ap, ◌∙◌, subst, ⊎_elim, arith, length-set}
+use Rattle.std.proofs.Common.{◌≡◌, ℕ, zero, suc, ◌+◌, ◌-◌, ◌^◌, ◌<◌, ◌≤◌, max, Bool, true, false, ◌||◌, eqb, List, [], ◌∷◌, ◌++◌, length, get_or, take, set, sym, refl, ap, ◌∙◌, subst, ⊎_elim, arith, length-set}
 use native.Mathlib.Decide.{ℕ_discrete}
 use Rattle.std.proofs.lemmas.List.{take_more, take_all, get_or-set_same, get_or-set_other, length_push, same_from_push}
 use Rattle.std.proofs.lemmas.Bool.{cases_lt, cases_Bool, eq-eqb, ne_eqb}
-use Rattle.listlaw.specs.Patterns.{Word, same, member, place, gather, fronts, states, extent, Places}
+use Rattle.listlaw.specs.Patterns.{Word, same, member, place, gather, fronts, states, Places}
 use Rattle.listlaw.proofs.Members.{never, not_same, same_refl, same_eq, member-append, member_cases, member_one}
 use Rattle.listlaw.proofs.Gathering.{gather-at}
 use Rattle.listlaw.proofs.States.{states_push, states_fronted, extent_push}

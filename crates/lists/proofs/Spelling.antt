@@ -1,5 +1,5 @@
 -- What records spell, and what one more spells. Assumes nothing.
-use Rattle.std.proofs.Common.{◌≡◌, ℕ, zero, suc, ◌+◌, ◌-◌, ◌<◌, ◌≤◌, true, false, ◌⊎◌, List, [], ◌∷◌, ◌++◌, length, get_or, take, drop, set, sym, refl, ap, ◌∙◌, subst, inl, inr, arith}
+use Rattle.std.proofs.Common.{◌≡◌, ℕ, zero, suc, ◌+◌, ◌<◌, ◌≤◌, true, false, ◌⊎◌, List, [], ◌∷◌, ◌++◌, length, get_or, take, drop, set, sym, refl, ap, ◌∙◌, subst, inl, inr, arith}
 use Rattle.std.proofs.lemmas.List.{take_more, take_more_set, get_or_append_left, get_or_push, length_push, length-take-le, take-append-drop, take-take, same_from_push}
 use Rattle.listlaw.specs.Patterns.{Word, member, place}
 use Rattle.listlaw.proofs.Members.{never, member-at, place-below, place_at}

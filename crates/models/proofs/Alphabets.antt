@@ -1,5 +1,5 @@
 -- Laws of alphabets. Assumes nothing.
-use Rattle.std.proofs.Common.{◌≡◌, Some, None, Option, sym, ap, ◌∙◌}
+use Rattle.std.proofs.Common.{◌≡◌, Some, sym, ap, ◌∙◌}
 use Rattle.models.specs.Alphabet.{Alphabet}
 
 same_some : {K : Type 0} {x y : K} → Some x ≡ Some y → x ≡ y

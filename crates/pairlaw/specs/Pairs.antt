@@ -5,7 +5,7 @@
 --
 -- An automaton has at most 4,096 states. A pair whose product is larger is never made; so that every pair of two
 -- automata has a meaning, such a one has a single state, which stops each letter.
-use Rattle.std.specs.Prelude.{ℕ, ◌+◌, ◌*◌, ◌/◌, ◌%◌, ◌≤◌, max, cond, ◌&&◌, List, Some, None, Option, nat_le, nat_lt}
+use Rattle.std.specs.Prelude.{ℕ, ◌+◌, ◌*◌, ◌/◌, ◌%◌, max, cond, ◌&&◌, List, Some, None, Option, nat_le, nat_lt}
 use Rattle.models.specs.Automaton.{Next, bind, Model, Pass}
 
 -- two states as one number, in rows of n

@@ -1,5 +1,5 @@
 -- A walk read from its end: the list is reversed. Assumes nothing.
-use Rattle.std.proofs.Common.{◌≡◌, ℕ, zero, suc, ◌+◌, ◌-◌, ◌≤◌, true, List, [], ◌∷◌, ◌++◌, reverse, length, take, drop, replicate, is_some, Some, None, Option, sym, refl, ap, ◌∙◌, add-one, arith, length-drop, take-append-drop, take_all}
+use Rattle.std.proofs.Common.{◌≡◌, ℕ, zero, suc, ◌-◌, ◌≤◌, true, List, [], ◌∷◌, ◌++◌, reverse, length, take, drop, replicate, is_some, Some, None, Option, sym, refl, ap, ◌∙◌, add-one, arith, length-drop, take-append-drop, take_all}
 use mathlib.Core.List.{reverse-cons, reverse-append, reverse-reverse}
 use Rattle.std.proofs.lemmas.List.{take-append-le, length-reverse, replicate_more}
 use Rattle.models.specs.Automaton.{Next, walk, bind, last}

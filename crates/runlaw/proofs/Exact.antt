@@ -1,13 +1,12 @@
 -- The run automaton lets pass exactly the strings without a longer run. Assumes nothing.
-use Rattle.std.proofs.Common.{◌≡◌, ℕ, zero, suc, ◌+◌, ◌<◌, ◌≤◌, true, false, cond, eqb, List, [], ◌∷◌, ◌++◌, map, reverse, length, take, drop, replicate, is_some, sym, refl, ap, ◌∙◌, subst, ⊎_elim, append_assoc, add-one, arith, take-append-drop, take_all}
+use Rattle.std.proofs.Common.{◌≡◌, ℕ, zero, suc, ◌+◌, ◌<◌, ◌≤◌, true, cond, eqb, List, [], ◌∷◌, ◌++◌, map, reverse, drop, replicate, is_some, sym, refl, ap, ◌∙◌, subst, ⊎_elim, append_assoc, add-one, arith}
 use mathlib.Core.List.{reverse-append, reverse-reverse, reverse-cons}
 use Rattle.std.proofs.ByRecursion.{All-push}
-use Rattle.std.proofs.lemmas.List.{map-append, length-map, take-map, drop-map, length-replicate, take-append-le}
+use Rattle.std.proofs.lemmas.List.{map-append}
 use Rattle.std.proofs.lemmas.Bool.{cases_lt, cases_eq, eq-eqb, ne_eqb}
 use Rattle.std.specs.List.{AllByRecursion as All}
 use Rattle.models.specs.Alphabet.{Alphabet, Numbered}
-use Rattle.models.specs.Automaton.{Passes, Pass}
-use Rattle.models.specs.Strings.{Occurs}
+use Rattle.models.specs.Automaton.{Passes}
 use Rattle.models.proofs.ByNumber.{walk-by}
 use Rattle.runlaw.specs.Runs.{run_next, run_model, Short, OnlyShort}
 use Rattle.runlaw.proofs.Backward.{reverse-replicate}

@@ -1,5 +1,5 @@
 -- The run automaton is lawful over any alphabet. Assumes nothing.
-use Rattle.std.proofs.Common.{◌≡◌, ℕ, ◌+◌, ◌*◌, ◌<◌, ◌≤◌, Some, None, arith}
+use Rattle.std.proofs.Common.{◌≡◌, ℕ, ◌+◌, ◌*◌, ◌≤◌, None, arith}
 use Rattle.std.proofs.lemmas.Bool.Decides.{nat_tests}
 use Rattle.models.specs.Alphabet.{Alphabet, Numbered}
 use Rattle.models.specs.Automaton.{Lawful}

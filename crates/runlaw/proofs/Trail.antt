@@ -1,11 +1,11 @@
 -- What the run automaton keeps of a string: its last letter and how often that stands at the end. Assumes nothing.
-use Rattle.std.proofs.Common.{◌≡◌, ℕ, zero, suc, ◌+◌, ◌-◌, ◌*◌, ◌<◌, ◌≤◌, min, Bool, true, false, cond, ◌&&◌, eqb, ltb, leb, ◌⊎◌, List, [], ◌∷◌, ◌++◌, reverse, length, take, drop, replicate, is_some, Some, None, Option, sym, refl, ap, ◌∙◌, subst, inl, inr, ⊎_elim, append_assoc, mul-le-mul_right, suc-mul, mul_comm, mul-le-mul, arith}
-use mathlib.Core.List.{reverse-append, reverse-reverse, reverse-cons}
+use Rattle.std.proofs.Common.{◌≡◌, ℕ, zero, suc, ◌+◌, ◌*◌, ◌<◌, ◌≤◌, min, Bool, true, false, cond, ◌&&◌, eqb, ltb, List, [], ◌∷◌, ◌++◌, reverse, take, is_some, Some, None, sym, refl, ap, ◌∙◌, subst, ⊎_elim, mul-le-mul_right, suc-mul, mul_comm, mul-le-mul, arith}
+use mathlib.Core.List.{reverse-append}
 use Rattle.std.proofs.lemmas.Bool.Decides.{nat_tests}
 use Rattle.std.proofs.lemmas.Bool.{cases_order, cases_lt, and_parts, ltb-true, lt-ltb, and_from, eq-eqb, ne_eqb}
-use Rattle.models.specs.Automaton.{Next, walk, bind, Passes, Parts, Forgets, last}
+use Rattle.models.specs.Automaton.{walk, bind, Passes, Parts, Forgets}
 use Rattle.runlaw.specs.Runs.{run_next}
-use Rattle.runlaw.proofs.Backward.{rwalk, rwalk_is, walk_is, some_is, take-reverse, reverse-replicate}
+use Rattle.runlaw.proofs.Backward.{rwalk, walk_is, some_is, take-reverse}
 
 -- how often a stands at the front
 abbrev pub lead : ℕ → List ℕ → ℕ

@@ -4,7 +4,7 @@
 --   run_model A r    the automaton over the letters of the alphabet A
 --   Short r xs       no letter stands more than r times in a row in xs
 --   OnlyShort m r   the automaton m lets pass exactly the strings that are Short r
-use Rattle.std.specs.Prelude.{◌≡◌, ℕ, ◌+◌, ◌*◌, cond, ◌&&◌, List, replicate, Some, None, ◌==◌, nat_le, nat_lt}
+use Rattle.std.specs.Prelude.{ℕ, ◌+◌, ◌*◌, cond, ◌&&◌, List, replicate, Some, None, ◌==◌, nat_le, nat_lt}
 use Rattle.models.specs.Alphabet.{Alphabet}
 use Rattle.models.specs.Automaton.{Next, Model, Pass}
 use Rattle.models.specs.Strings.{Occurs}

@@ -1,11 +1,11 @@
 -- What is known where a letter was decided so. Assumes nothing.
 --
 --   Decided .. o   the decision o, and that its cause holds and no earlier one does
-use Rattle.std.proofs.Common.{◌≡◌, ℕ, ◌+◌, ◌-◌, ◌*◌, ◌<◌, ◌≤◌, Bool, true, false, cond, ltb, leb, ◌⊎◌, List, [], ◌∷◌, ◌++◌, length, Some, None, Ok, Err, Option, Result, sym, refl, ap, ◌∙◌, subst, inl, inr, arith}
+use Rattle.std.proofs.Common.{◌≡◌, ℕ, ◌+◌, ◌<◌, ◌≤◌, true, false, ltb, leb, ◌⊎◌, List, length, Some, None, Ok, Err, Option, Result, refl, inl, inr}
 use Rattle.std.proofs.lemmas.Bool.{cond_both, ltb-true, ltb-false, leb-true, leb-false}
 use Rattle.faults.specs.declared.Fault.{Fault}
 use Rattle.faults.specs.Causes.{short_work, full_sheet, no_string, short_text}
-use Rattle.models.specs.Automaton.{Model, last}
+use Rattle.models.specs.Automaton.{Model}
 use Rattle.sheetlaw.specs.Calls.{passes}
 use Rattle.sheetlaw.specs.Step.{Contents, Outcome, wait, skip, keep, window, refuse_none, refuse_if, row_to, needs, decide, pauses}
 

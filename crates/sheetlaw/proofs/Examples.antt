@@ -1,5 +1,5 @@
 -- Small sheets over two letters, computed from the definitions alone: 0 and 1 are letters, 2 stands for a gap.
-use Rattle.std.proofs.Common.{◌≡◌, ℕ, zero, suc, ◌+◌, ◌*◌, ◌%◌, ◌^◌, Bool, true, false, cond, ◌&&◌, ◌||◌, eqb, ltb, List, [], ◌∷◌, ◌++◌, map, length, take, replicate, Some, None, Ok, Err, Option, Result, refl}
+use Rattle.std.proofs.Common.{◌≡◌, ℕ, zero, suc, ◌+◌, ◌*◌, ◌%◌, ◌^◌, Bool, true, false, cond, ◌&&◌, ◌||◌, eqb, ltb, List, [], ◌∷◌, ◌++◌, map, length, replicate, Some, None, Ok, Err, Option, Result, refl}
 use Rattle.std.specs.List.{AllByRecursion as All}
 use Rattle.faults.specs.declared.Fault.{Fault}
 use Rattle.faults.specs.Causes.{short_work, no_string, short_text}
@@ -11,7 +11,7 @@ use Rattle.sheetlaw.specs.Law.{text}
 use Rattle.sheetlaw.specs.declared.Event.{Event}
 use Rattle.sheetlaw.specs.declared.Event.TheVariants.{Letter, Gap}
 use Rattle.sheetlaw.specs.declared.Answer.{Answer}
-use Rattle.sheetlaw.specs.declared.Answer.TheVariants.{Pending, Skipped, Kept}
+use Rattle.sheetlaw.specs.declared.Answer.TheVariants.{Pending, Kept}
 use Rattle.sheetlaw.specs.declared.Counts.{Counts}
 
 -- the first of the words, by length and then by letters, that serves as a row, up to a length

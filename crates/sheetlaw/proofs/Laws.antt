@@ -1,25 +1,22 @@
 -- The law of a sheet holds. Assumes nothing.
-use Rattle.std.proofs.Common.{◌≡◌, ℕ, ◌+◌, ◌-◌, ◌*◌, ◌<◌, ◌≤◌, Bool, true, false, cond, ◌||◌, ltb, ◌⊎◌, List, [], ◌∷◌, ◌++◌, length, take, drop, Some, None, Ok, Err, Option, Result, sym, refl, ap, ◌∙◌, subst, inl, inr, append-nil, arith, length-append, length-drop}
+use Rattle.std.proofs.Common.{◌≡◌, ℕ, ◌+◌, ◌-◌, ◌<◌, ◌≤◌, true, false, List, [], ◌∷◌, ◌++◌, length, take, Some, None, Ok, Err, Option, Result, sym, refl, ap, ◌∙◌, subst, inl, inr, append-nil, arith, length-append}
 use Rattle.std.proofs.lemmas.List.{drop_all, length-take-le}
-use Rattle.std.proofs.lemmas.Bool.{cond_both, ltb-false, or_parts}
 use Rattle.faults.specs.declared.Fault.{Fault}
-use Rattle.faults.specs.Causes.{bad_window, long_memory, no_string, short_text}
-use Rattle.models.specs.Automaton.{Model, Lawful, Pass, last}
-use Rattle.models.specs.Strings.{Ends, Least}
+use Rattle.models.specs.Automaton.{Model, Lawful, Pass}
+use Rattle.models.specs.Strings.{Least}
 use Rattle.sheetlaw.specs.Rivals.{Rival}
 use Rattle.joinlaw.specs.Laws.{Continues}
 use Rattle.sheetlaw.specs.Rows.{Rows}
-use Rattle.sheetlaw.specs.Calls.{Turn, letter, gap, adds, taken, appended, filled, since, kept, tally}
-use Rattle.sheetlaw.specs.Step.{Contents, Outcome, wait, skip, keep, opening, opened, window, needs, row_to, decide, pauses, said, if_taken, carry, append, pause, write, cleared, answers, leaves, writes, leaves_gap, close}
+use Rattle.sheetlaw.specs.Calls.{Turn, letter, gap, adds, taken, appended, filled, kept}
+use Rattle.sheetlaw.specs.Step.{Contents, Outcome, wait, skip, keep, opening, opened, window, needs, row_to, decide, pauses, said, if_taken, carry, append, pause, write, answers, writes}
 use Rattle.sheetlaw.specs.Runs.{after, Exact}
-use Rattle.sheetlaw.specs.Law.{text, Refused, EndsWindow, Latest, Refusals, Followed, SheetLaw}
+use Rattle.sheetlaw.specs.Law.{Latest, Refusals, Followed, SheetLaw}
 use Rattle.sheetlaw.specs.declared.Event.{Event}
-use Rattle.sheetlaw.specs.declared.Event.TheVariants.{Letter, Gap}
-use Rattle.sheetlaw.specs.declared.Answer.{Answer}
-use Rattle.sheetlaw.specs.declared.Answer.TheVariants.{Pending, Skipped, Kept}
+use Rattle.sheetlaw.specs.declared.Event.TheVariants.{Letter}
+use Rattle.sheetlaw.specs.declared.Answer.TheVariants.{Kept}
 use Rattle.sheetlaw.proofs.Openings.{Fits, opening_fits}
 use Rattle.sheetlaw.proofs.Texts.{Built, built_more, shortest, row_least, no_rival, row-shortest}
-use Rattle.sheetlaw.proofs.Decisions.{Free, Whole, Row, Decided, decided, Paused, paused_so}
+use Rattle.sheetlaw.proofs.Decisions.{Row, Decided, decided}
 use Rattle.sheetlaw.proofs.Sheets.{Holds, holds_gap, window_is, window-size, holds_wait, holds_skip, holds_keep, take-write}
 
 module _ {K : Type 0} (m : Model K) (number : K → ℕ) (k : ℕ) (row : List K → List K → Option (List K)) (laws : Lawful m) (opens : opening m k ≡ Ok opened) (rows : Rows m number k row) (t0 : List K) where

@@ -1,5 +1,5 @@
 -- The rows of the join are the rows that a sheet needs, so the law holds for every sheet. Assumes nothing.
-use Rattle.std.proofs.Common.{◌≡◌, ℕ, ◌≤◌, List, [], ◌∷◌, length, Some, None, Ok, Err, Option, Result, sym, refl, ap, ◌∙◌, subst, arith}
+use Rattle.std.proofs.Common.{◌≡◌, ℕ, ◌≤◌, List, [], ◌∷◌, length, Some, None, Ok, Option, Result, sym, ◌∙◌, subst, arith}
 use Rattle.models.specs.Alphabet.{Alphabet, Numbered}
 use Rattle.models.specs.Automaton.{Model, Lawful}
 use Rattle.models.specs.Strings.{Least}

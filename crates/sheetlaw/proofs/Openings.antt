@@ -1,7 +1,7 @@
 -- An opening that is not refused. Assumes nothing.
 --
 --   Fits m k   k is 2 to 12, and the automaton's memory at most k
-use Rattle.std.proofs.Common.{◌≡◌, ℕ, ◌<◌, ◌≤◌, Bool, true, false, cond, ◌||◌, ltb, ◌⊎◌, Ok, Err, Result, refl, inl, inr, arith}
+use Rattle.std.proofs.Common.{◌≡◌, ℕ, ◌<◌, ◌≤◌, true, false, ◌||◌, ltb, ◌⊎◌, Ok, Err, Result, inl, inr, arith}
 use Rattle.std.proofs.lemmas.Bool.{cond_both, ltb-false, lt-ltb, le-ltb, or_parts, or_from, or_left, or_right}
 use Rattle.faults.specs.declared.Fault.{Fault}
 use Rattle.faults.specs.Causes.{bad_window, long_memory}

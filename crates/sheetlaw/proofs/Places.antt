@@ -1,7 +1,7 @@
 -- Windows at rising places of a string. Assumes nothing.
 --
 --   Within s n e ws   the windows ws stand in s at strictly rising places, one for each, from the place n on and below e
-use Rattle.std.proofs.Common.{◌≡◌, ℕ, ◌+◌, ◌<◌, ◌≤◌, List, [], ◌∷◌, ◌++◌, length, take, drop, sym, refl, ap, ◌∙◌, subst, append_assoc, arith}
+use Rattle.std.proofs.Common.{ℕ, ◌+◌, ◌<◌, ◌≤◌, List, [], ◌∷◌, ◌++◌, length, drop, refl, ap, ◌∙◌, append_assoc, arith}
 use Rattle.std.proofs.lemmas.List.{drop-append-le, drop_at}
 use Rattle.std.specs.List.{AllByRecursion as All}
 use Rattle.sheetlaw.specs.Rivals.{At, Rises}

@@ -2,19 +2,16 @@
 --
 --   Holds t0 es n f s t   after the letters and gaps es, with n letters appended and f filled in: the sheet s, and the table t,
 --                         which first held t0
-use Rattle.std.proofs.Common.{◌≡◌, ℕ, ◌+◌, ◌-◌, ◌<◌, ◌≤◌, Bool, true, false, cond, not, leb, List, [], ◌∷◌, ◌++◌, length, take, drop, Some, None, filter, Option, sym, refl, ap, ◌∙◌, subst, append_assoc, append-nil, arith, length-append, length-drop, length-take}
+use Rattle.std.proofs.Common.{◌≡◌, ℕ, ◌+◌, ◌-◌, ◌<◌, ◌≤◌, Bool, true, false, cond, not, List, [], ◌∷◌, ◌++◌, length, take, drop, Some, filter, sym, ap, ◌∙◌, subst, append_assoc, append-nil, arith, length-append, length-drop, length-take}
 use Rattle.std.proofs.lemmas.List.Elements.{filter-append}
 use Rattle.std.proofs.lemmas.List.{drop-append-le, drop-drop, length_push, length-take-le, take_at, drop_at, drop_all}
-use Rattle.models.specs.Automaton.{Model, Lawful, Pass, last}
-use Rattle.models.specs.Strings.{Least}
-use Rattle.joinlaw.specs.Laws.{Continues}
-use Rattle.sheetlaw.specs.Rows.{Rows}
+use Rattle.models.specs.Automaton.{Model, last}
 use Rattle.sheetlaw.specs.Calls.{letters, since, windows, passes, kept, skipped}
-use Rattle.sheetlaw.specs.Step.{Contents, Outcome, wait, skip, keep, window, count, carry, pause, write, row_to}
+use Rattle.sheetlaw.specs.Step.{Contents, wait, skip, keep, window, count, carry, pause, write}
 use Rattle.sheetlaw.specs.declared.Event.{Event}
 use Rattle.sheetlaw.specs.declared.Event.TheVariants.{Letter, Gap}
 use Rattle.sheetlaw.specs.declared.Counts.{Counts}
-use Rattle.sheetlaw.proofs.Texts.{Built, built_more, row_least}
+use Rattle.sheetlaw.proofs.Texts.{Built}
 use Rattle.sheetlaw.proofs.Windows.{ending, ending-none, ending_one, since-letter, since-gap, letters-append, windows-letter, windows-gap}
 
 -- the last k of the last k letters with one more

@@ -1,5 +1,5 @@
 -- Each call takes the law to the longer list of calls. Assumes nothing.
-use Rattle.std.proofs.Common.{◌≡◌, ℕ, List, [], ◌∷◌, length, Ok, Err, Option, Result, sym, refl, ap, ◌∙◌, subst}
+use Rattle.std.proofs.Common.{◌≡◌, ℕ, List, [], ◌∷◌, length, Ok, Option, Result, sym, refl, ap, ◌∙◌, subst}
 use Rattle.faults.specs.declared.Fault.{Fault}
 use Rattle.models.specs.Automaton.{Model, Lawful}
 use Rattle.sheetlaw.specs.Rows.{Rows}

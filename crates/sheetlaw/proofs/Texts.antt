@@ -1,13 +1,12 @@
 -- A text made of least rows is a shortest string that has its windows in order. Assumes nothing.
 --
 --   Built o ws t   t is the text of the kept windows ws, of which o is the last
-use Rattle.std.proofs.Common.{◌≡◌, ℕ, ◌+◌, ◌-◌, ◌<◌, ◌≤◌, ◌⊎◌, List, [], ◌∷◌, ◌++◌, length, Some, None, Option, sym, refl, ap, ◌∙◌, subst, inl, inr, append_assoc, append-nil, arith, length-append}
+use Rattle.std.proofs.Common.{◌≡◌, ℕ, ◌+◌, ◌-◌, ◌<◌, ◌≤◌, List, [], ◌∷◌, ◌++◌, length, Some, None, Option, sym, refl, ap, ◌∙◌, subst, inl, inr, append_assoc, append-nil, arith, length-append}
 use Rattle.std.proofs.ByRecursion.{All-push, All-weaker}
-use Rattle.std.proofs.lemmas.List.{nil_from_length}
 use Rattle.std.specs.List.{AllByRecursion as All}
 use Rattle.models.specs.Automaton.{Model, Lawful, Pass}
 use Rattle.models.specs.Strings.{Ends, Before, Leads, Least}
-use Rattle.sheetlaw.specs.Rivals.{At, Rises, Has, Rival}
+use Rattle.sheetlaw.specs.Rivals.{At, Has, Rival}
 use Rattle.joinlaw.specs.Laws.{Continues}
 use Rattle.sheetlaw.specs.Rows.{Meet, Rows}
 use Rattle.sheetlaw.specs.Step.{row_to}

@@ -3,7 +3,7 @@
 --   Meet m k t u w         the passing text t ends with the window u of k letters, and w is a passing window of k letters
 --   Rows m number k row    row u w is the row that every text which ends with the window u is given for the window w: the
 --                          shortest that continues the text so, among equals the first in letter order, or None where none does
-use Rattle.std.specs.Prelude.{◌≡◌, ℕ, ◌≤◌, List, ◌++◌, length, Some, None, Option}
+use Rattle.std.specs.Prelude.{◌≡◌, ℕ, List, length, Some, None, Option}
 use Rattle.models.specs.Automaton.{Model, Pass}
 use Rattle.models.specs.Strings.{Ends, Least}
 use Rattle.joinlaw.specs.Laws.{Continues}

@@ -1,9 +1,9 @@
 -- What is left where a plan is carried out. Assumes nothing.
-use Rattle.std.proofs.Common.{◌≡◌, ℕ, ◌+◌, ◌-◌, ◌*◌, ◌<◌, ◌≤◌, List, [], ◌∷◌, ◌++◌, length, Some, None, Ok, sym, refl, ap, ◌∙◌, subst, arith}
+use Rattle.std.proofs.Common.{◌≡◌, ℕ, ◌+◌, ◌-◌, ◌*◌, ◌<◌, ◌≤◌, List, length, Some, Ok, sym, ap, ◌∙◌, subst, arith}
 use Rattle.models.specs.Alphabet.{Alphabet}
 use Rattle.models.specs.Automaton.{Model}
 use Rattle.joinlaw.specs.Bridges.{row}
-use Rattle.joins.specs.Ways.{told, added}
+use Rattle.joins.specs.Ways.{told}
 use Rattle.joins.specs.declared.ways.Way.{Way}
 use Rattle.joins.proofs.Writings.{added-row, added-few}
 use Rattle.sheetlaw.specs.Step.{Contents, window, answer, count, carry, append, write, decide}

@@ -1,21 +1,21 @@
 -- What is planned for a letter. Assumes nothing.
-use Rattle.std.proofs.Common.{◌≡◌, ℕ, ◌+◌, ◌-◌, ◌^◌, ◌<◌, ◌≤◌, Bool, true, false, List, [], ◌∷◌, ◌++◌, length, take, drop, Some, None, Ok, Err, Option, sym, refl, ap, ◌∙◌, subst, arith}
+use Rattle.std.proofs.Common.{◌≡◌, ℕ, ◌+◌, ◌<◌, ◌≤◌, Bool, true, false, List, length, Some, None, Ok, Err, Option, sym, ap, ◌∙◌, subst, arith}
 use Rattle.std.proofs.lemmas.List.{length-take-le}
 use Rattle.faults.specs.Causes.{short_text}
 use Rattle.models.specs.Alphabet.{Alphabet}
 use Rattle.models.specs.Automaton.{Model}
-use Rattle.joinlaw.specs.Bridges.{Bridge, row, next_row}
+use Rattle.joinlaw.specs.Bridges.{Bridge, row}
 use Rattle.joins.specs.Ways.{told, added, Fit, WayIs}
 use Rattle.joins.specs.declared.ways.Way.{Way}
 use Rattle.joins.proofs.Writings.{added-row}
 use Rattle.sheetlaw.specs.Calls.{passes}
-use Rattle.sheetlaw.specs.Step.{Contents, Outcome, wait, skip, keep, window, needs, row_to, decide}
+use Rattle.sheetlaw.specs.Step.{Contents, keep, window, needs, row_to, decide}
 use Rattle.sheetlaw.specs.NextRow.{appended_by, row_of}
 use Rattle.sheetlaw.proofs.Cases.{decide-wait, decide-long, decide-keep}
 use Rattle.sheets.specs.Stages.{shown}
-use Rattle.sheets.specs.Plans.{planned, PlanIs, RowIs}
+use Rattle.sheets.specs.Plans.{PlanIs, RowIs}
 use Rattle.sheets.specs.declared.window.Window.{Window}
-use Rattle.sheets.specs.declared.plan.Plan.TheVariants.{Wait, Skip, Keep}
+use Rattle.sheets.specs.declared.plan.Plan.TheVariants.{Wait, Keep}
 
 pub length-shown : {K : Type 0} (w : Window K) → length (shown w) ≡ w.held
 length-shown w = length-take-le w.held w.letters (omega (arith, w.whole, w.fits))

@@ -1,6 +1,6 @@
 -- The running window with a letter more. Assumes nothing.
-use Rattle.std.proofs.Common.{◌≡◌, ℕ, ◌+◌, ◌-◌, ◌<◌, ◌≤◌, List, [], ◌∷◌, ◌++◌, length, get_or, take, drop, set, sym, refl, ap, ◌∙◌, subst, arith, length-drop, length-take}
-use Rattle.std.proofs.lemmas.List.{drop-set-lt, take_more, take_more_set, get_or-drop, drop-append-le, drop-take, drop-drop, length_push, length-take-le}
+use Rattle.std.proofs.Common.{◌≡◌, ℕ, ◌+◌, ◌-◌, ◌<◌, ◌≤◌, List, [], ◌∷◌, ◌++◌, length, get_or, take, drop, set, sym, ap, ◌∙◌, subst, arith, length-drop}
+use Rattle.std.proofs.lemmas.List.{drop-set-lt, take_more, take_more_set, get_or-drop, drop-append-le, drop-take, drop-drop, length_push}
 use Rattle.models.specs.Automaton.{last}
 
 module _ {K : Type 0} where

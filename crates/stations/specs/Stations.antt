@@ -14,7 +14,6 @@ use Rattle.faults.specs.declared.Fault.{Fault}
 use Rattle.faults.specs.Causes.{broken_file}
 use Rattle.files.specs.Lines.{Said, remark, setting, pattern, trace}
 use Rattle.files.specs.Fields.{read}
-use Rattle.files.specs.declared.lines.Name.{Name}
 use Rattle.files.specs.declared.lines.Name.TheVariants.{Kind as KindLine, Window as WindowLine, Limit as LimitLine}
 use Rattle.files.specs.declared.refusals.Refusal.{Refusal}
 use Rattle.stations.specs.declared.Kind.{Kind}

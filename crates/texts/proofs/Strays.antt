@@ -1,5 +1,5 @@
 -- Laws of texts given as bytes. Assumes nothing.
-use Rattle.std.proofs.Common.{◌≡◌, ℕ, zero, suc, ◌+◌, ◌<◌, true, List, [], ◌∷◌, length, get_or, is_some, Some, None, Option, refl, ap, ◌∙◌, add-one, arith}
+use Rattle.std.proofs.Common.{◌≡◌, ℕ, zero, suc, ◌<◌, true, List, [], ◌∷◌, length, get_or, is_some, Some, None, Option, refl, ap, ◌∙◌, add-one, arith}
 use Rattle.models.specs.Automaton.{Model, later, stop_or, stops}
 use Rattle.texts.specs.Texts.{stray, stray_or, before, spelled, step_with, byte_next}
 

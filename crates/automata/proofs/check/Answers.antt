@@ -1,4 +1,4 @@
-use Rattle.std.proofs.Common.{◌≡◌, sym, ap, ◌∙◌, take_all}
+use Rattle.std.proofs.Common.{sym, ap, ◌∙◌, take_all}
 use Rattle.models.specs.Automaton.{run}
 use Rattle.models.proofs.Walks.{walk_more, stops-here, stops-none}
 use Rattle.automata.proofs.check.Goals as goal

@@ -1,4 +1,4 @@
-use Rattle.std.proofs.Common.{◌≡◌, sym, ap, ◌∙◌, take_all}
+use Rattle.std.proofs.Common.{sym, ap, ◌∙◌, take_all}
 use Rattle.models.specs.Automaton.{walk}
 use Rattle.models.proofs.Walks.{walk_more, ends-here}
 use Rattle.automata.proofs.walk.Goals as goal

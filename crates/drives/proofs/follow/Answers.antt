@@ -1,4 +1,4 @@
-use Rattle.std.proofs.Common.{◌≡◌, ℕ, ◌+◌, List, [], ◌∷◌, ◌++◌, length, take, sym, refl, ap, ◌∙◌, subst, arith}
+use Rattle.std.proofs.Common.{◌≡◌, ℕ, ◌+◌, List, [], ◌∷◌, ◌++◌, length, take, sym, ap, ◌∙◌, subst, arith}
 use Rattle.std.proofs.lemmas.List.{take_more, take_all}
 use Rattle.sheetlaw.specs.Calls.{Turn}
 use Rattle.sheetlaw.specs.Step.{needs, cleared}
@@ -8,7 +8,7 @@ use Rattle.sheetlaw.specs.declared.Event.TheVariants.{Letter, Gap}
 use Rattle.sheets.specs.Views.{contents, Stands}
 use Rattle.sheets.specs.declared.sheet.Sheet.{Sheet}
 use Rattle.drives.specs.Traces.{brought, left_over, one_more, driven}
-use Rattle.drives.proofs.Givings.{left_over-more, driven-more, more-letter, more-gap, so_far, next-letter, next-gap}
+use Rattle.drives.proofs.Givings.{left_over-more, driven-more, more-letter, more-gap, next-letter, next-gap}
 use Rattle.drives.proofs.follow.Goals as goal
 use Rattle.drives.proofs.follow.Goals.{in-Letter, in-Gap}
 

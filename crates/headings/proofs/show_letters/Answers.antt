@@ -1,9 +1,8 @@
-use Rattle.std.proofs.Common.{◌≡◌, ◌+◌, ◌<◌, [], ◌∷◌, Some, None, sym, ap, ◌∙◌, subst, arith}
+use Rattle.std.proofs.Common.{◌≡◌, ◌<◌, [], ◌∷◌, sym, ap, ◌∙◌, subst, arith}
 use Rattle.std.proofs.lemmas.List.FromFn.{map-range_with_len_more}
 use Rattle.models.specs.Alphabet.{Bears}
 use Rattle.pages.specs.Pages.{Wrote}
 use Rattle.pages.proofs.Writes.{wrote_then}
-use Rattle.headings.specs.Headings.{letter_bytes}
 use Rattle.headings.proofs.show_letters.Given as given
 use Rattle.headings.proofs.show_letters.Goals.{in-Some, in_default}
 use Rattle.headings.proofs.show_letters.Goals as goal

@@ -1,4 +1,4 @@
-use Rattle.std.proofs.Common.{◌≡◌, List, [], ◌∷◌, ◌++◌, None, Ok, sym, ◌∙◌, subst, rules}
+use Rattle.std.proofs.Common.{◌≡◌, [], ◌∷◌, ◌++◌, None, Ok, sym, ◌∙◌, subst, rules}
 use Rattle.files.specs.Lines.{items, meant}
 use Rattle.stations.specs.Stations.{bind, take_line, a_pattern}
 use Rattle.lists.specs.History.{Holds}

@@ -1,4 +1,4 @@
-use Rattle.std.proofs.Common.{◌≡◌, get_or, sym, ap, ◌∙◌, take_all}
+use Rattle.std.proofs.Common.{sym, ap, ◌∙◌, take_all}
 use Rattle.std.proofs.lemmas.List.{get_or_default}
 use Rattle.models.specs.Automaton.{walk}
 use Rattle.models.proofs.Walks.{walk_more, stops-here, stops-none}

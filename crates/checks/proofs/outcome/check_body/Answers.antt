@@ -1,4 +1,4 @@
-use Rattle.std.proofs.Common.{◌≡◌, ◌+◌, [], length, sym, refl, ap, ◌∙◌, rules}
+use Rattle.std.proofs.Common.{◌+◌, [], length, refl, rules}
 use Rattle.files.specs.Lines.{items}
 use Rattle.stations.specs.Stations.{ended}
 use Rattle.checks.proofs.Bodies.{body-from}

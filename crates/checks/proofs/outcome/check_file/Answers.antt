@@ -1,5 +1,4 @@
-use Rattle.std.proofs.Common.{◌≡◌, min, [], length, ap, ◌∙◌, rules}
-use Rattle.pages.specs.Pages.{over}
+use Rattle.std.proofs.Common.{min, [], length, ap, ◌∙◌, rules}
 use Rattle.checks.specs.Outcomes.{printed, passed}
 use Rattle.checks.proofs.outcome.check_file.Goals as goal
 

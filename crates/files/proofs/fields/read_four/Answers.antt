@@ -1,8 +1,8 @@
-use Rattle.std.proofs.Common.{◌≡◌, ◌+◌, ◌^◌, true, eqb, length, get_or, take, fold, sym, ap, ◌∙◌, arith, rules}
+use Rattle.std.proofs.Common.{◌≡◌, true, eqb, length, get_or, take, fold, sym, ap, ◌∙◌, arith}
 use Rattle.std.proofs.lemmas.Bool.Decides.{nat_tests}
 use Rattle.std.proofs.lemmas.List.Sums.{fold_more}
 use Rattle.std.proofs.lemmas.List.{take_all}
-use Rattle.files.specs.Fields.{column, number, Under}
+use Rattle.files.specs.Fields.{column, number}
 use Rattle.files.specs.declared.fields.Field.TheVariants.{Blank}
 use Rattle.files.proofs.Digits.{under-column}
 use Rattle.files.proofs.fields.read_four.Goals as goal

@@ -1,4 +1,4 @@
-use Rattle.std.proofs.Common.{◌≡◌, ◌+◌, [], length, refl, ap, ◌∙◌, rules}
+use Rattle.std.proofs.Common.{◌+◌, [], length, refl, ap, ◌∙◌, rules}
 use Rattle.files.specs.Lines.{items}
 use Rattle.texts.specs.Texts.{reading}
 use Rattle.stations.specs.Stations.{ended}

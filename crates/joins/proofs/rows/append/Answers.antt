@@ -1,6 +1,6 @@
-use Rattle.std.proofs.Common.{◌≡◌, ℕ, ◌+◌, ◌-◌, ◌*◌, ◌<◌, ◌≤◌, length, drop, Ok, Err, sym, refl, ap, ◌∙◌, subst, arith}
+use Rattle.std.proofs.Common.{◌≡◌, ◌+◌, ◌-◌, length, drop, Ok, Err, sym, ap, ◌∙◌, subst, arith}
 use Rattle.std.proofs.lemmas.List.{length-drop, length-take-le}
-use Rattle.joinlaw.specs.Bridges.{Bridge, row}
+use Rattle.joinlaw.specs.Bridges.{row}
 use Rattle.joins.specs.Queue.{by}
 use Rattle.joins.specs.Ways.{told, Fit}
 use Rattle.joins.specs.Answers.{appended, appended_text}

@@ -1,4 +1,4 @@
-use Rattle.std.proofs.Common.{◌≡◌, ℕ, ◌+◌, ◌<◌, ◌≤◌, length, replicate, Some, None, sym, refl, ap, ◌∙◌, arith}
+use Rattle.std.proofs.Common.{◌≡◌, ℕ, ◌<◌, replicate, Some, None, sym, refl, ap, ◌∙◌, arith}
 use Rattle.models.specs.Automaton.{walk, run}
 use Rattle.joinlaw.specs.Words.{letters}
 use Rattle.joinlaw.specs.Bridges.{filled}

@@ -1,4 +1,4 @@
-use Rattle.std.proofs.Common.{◌+◌, ◌*◌, ◌<◌, arith}
+use Rattle.std.proofs.Common.{◌<◌, arith}
 use lib.Arith.{digits_lt}
 use Rattle.pairs.proofs.PairAutomaton.first.Goals as goal
 

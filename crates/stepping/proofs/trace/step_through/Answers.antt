@@ -1,7 +1,7 @@
 use Rattle.std.proofs.Common.{◌≡◌, ◌+◌, take, sym, refl, ap, ◌∙◌, arith}
 use Rattle.std.proofs.lemmas.List.{take_all}
 use Rattle.texts.specs.Texts.{reading}
-use Rattle.stepping.specs.Steps.{event, events}
+use Rattle.stepping.specs.Steps.{events}
 use Rattle.stepping.proofs.Traces.{past-none, past_more, past-at, events-with, events-without}
 use Rattle.stepping.proofs.trace.step_through.Goals as goal
 use Rattle.stepping.proofs.trace.step_through.Goals.{in-Some, in_default}

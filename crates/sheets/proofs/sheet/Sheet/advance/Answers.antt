@@ -1,4 +1,4 @@
-use Rattle.std.proofs.Common.{◌≡◌, true, sym, refl, ap, ◌∙◌, arith}
+use Rattle.std.proofs.Common.{◌≡◌, true, ap, arith}
 use Rattle.sheets.specs.Stages.{full}
 use Rattle.sheets.proofs.Planning.{never_both}
 use Rattle.sheets.proofs.sheet.Sheet.advance.Goals as goal

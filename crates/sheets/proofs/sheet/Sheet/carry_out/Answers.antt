@@ -1,9 +1,9 @@
-use Rattle.std.proofs.Common.{◌≡◌, ℕ, ◌+◌, ◌-◌, ◌<◌, ◌≤◌, true, false, length, sym, refl, ap, ◌∙◌, subst, arith}
+use Rattle.std.proofs.Common.{◌≡◌, ◌+◌, ◌-◌, true, length, sym, refl, ap, ◌∙◌, subst, arith}
 use Rattle.joins.specs.Queue.{by}
 use Rattle.joins.specs.Ways.{Fit, added}
 use Rattle.sheetlaw.specs.Step.{window}
 use Rattle.sheetlaw.specs.declared.Answer.TheVariants.{Kept}
-use Rattle.sheets.specs.Stages.{shown, full}
+use Rattle.sheets.specs.Stages.{shown}
 use Rattle.sheets.specs.Views.{contents}
 use Rattle.sheets.proofs.Planning.{length-shown, never_both}
 use Rattle.sheets.proofs.Outcomes.{ready_few, counted-few, counted-text, so, kept-answer, kept_leaves, kept-writes}

@@ -1,4 +1,4 @@
-use Rattle.std.proofs.Common.{◌≡◌, ℕ, ◌+◌, ◌-◌, ◌<◌, ◌≤◌, true, false, length, is_some, Ok, Err, sym, refl, ap, ◌∙◌, subst, arith}
+use Rattle.std.proofs.Common.{◌≡◌, true, length, is_some, Err, sym, ap, ◌∙◌, subst, arith}
 use Rattle.models.specs.Automaton.{walk, run}
 use Rattle.joins.specs.Queue.{by}
 use Rattle.joins.specs.Ways.{Short, added}

@@ -1,4 +1,4 @@
-use Rattle.std.proofs.Common.{◌≡◌, ◌<◌, ◌≤◌, ◌∷◌, Ok, Err, sym, refl, ap, ◌∙◌, subst, arith}
+use Rattle.std.proofs.Common.{◌<◌, ◌≤◌, ◌∷◌, Ok, Err, sym, refl, ap, ◌∙◌, subst, arith}
 use Rattle.sheetlaw.specs.Calls.{gap}
 use Rattle.sheetlaw.specs.Law.{Followed}
 use Rattle.sheetlaw.specs.NextRow.{row_of}

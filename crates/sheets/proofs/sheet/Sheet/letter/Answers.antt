@@ -1,9 +1,9 @@
-use Rattle.std.proofs.Common.{◌≡◌, ℕ, ◌-◌, ◌*◌, ◌<◌, ◌≤◌, ltb, ◌∷◌, ◌++◌, length, take, drop, replicate, Ok, Err, sym, refl, ap, ◌∙◌, subst, arith}
+use Rattle.std.proofs.Common.{◌≡◌, ◌-◌, ◌*◌, ◌<◌, ◌≤◌, ltb, ◌∷◌, ◌++◌, length, take, drop, replicate, Err, sym, refl, ap, ◌∙◌, subst, arith}
 use Rattle.std.proofs.lemmas.List.{length-take-le}
 use Rattle.std.proofs.lemmas.Bool.{cond-true, cond-false, lt-ltb, le-ltb}
 use Rattle.faults.specs.Causes.{short_work}
 use Rattle.sheetlaw.specs.Calls.{letter}
-use Rattle.sheetlaw.specs.Step.{needs, decide, said, if_taken, carry, append, cleared}
+use Rattle.sheetlaw.specs.Step.{needs, decide, said, if_taken, carry, append}
 use Rattle.sheetlaw.specs.Law.{Followed}
 use Rattle.sheetlaw.specs.NextRow.{row_of}
 use Rattle.sheetlaw.proofs.Cases.{decide_short, decide_enough}

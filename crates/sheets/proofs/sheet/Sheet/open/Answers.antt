@@ -2,7 +2,7 @@ use Rattle.std.proofs.Common.{List, [], None, Ok, Err, sym, refl, ap, ◌∙◌,
 use Rattle.sheetlaw.specs.Step.{Contents}
 use Rattle.sheetlaw.specs.Law.{Followed}
 use Rattle.sheetlaw.specs.NextRow.{row_of}
-use Rattle.sheetlaw.proofs.Openings.{Fits, fits_opening, opening_bad}
+use Rattle.sheetlaw.proofs.Openings.{fits_opening, opening_bad}
 use Rattle.sheetlaw.proofs.NextRows.{after-opening}
 use Rattle.sheets.proofs.sheet.Sheet.open.Goals as goal
 

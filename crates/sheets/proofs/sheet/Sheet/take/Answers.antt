@@ -1,9 +1,9 @@
-use Rattle.std.proofs.Common.{◌≡◌, ℕ, ◌+◌, ◌-◌, ◌*◌, ◌<◌, ◌≤◌, length, Ok, Err, sym, refl, ap, ◌∙◌, subst, arith, rules}
+use Rattle.std.proofs.Common.{◌≡◌, ◌*◌, length, Ok, Err, sym, refl, ap, ◌∙◌, subst, arith, rules}
 use Rattle.std.proofs.lemmas.Result.{err_from_is_err_and}
 use Rattle.joins.specs.Queue.{by}
 use Rattle.sheetlaw.specs.Step.{window, decide, said, if_taken, carry, append}
 use Rattle.sheetlaw.specs.NextRow.{row_of}
-use Rattle.sheets.specs.Plans.{planned, Ready}
+use Rattle.sheets.specs.Plans.{Ready}
 use Rattle.sheets.specs.Views.{contents}
 use Rattle.sheets.proofs.Outcomes.{plan_early}
 use Rattle.sheets.proofs.sheet.Sheet.take.Goals as goal

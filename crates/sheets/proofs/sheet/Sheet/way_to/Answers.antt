@@ -1,4 +1,4 @@
-use Rattle.std.proofs.Common.{◌≡◌, ℕ, ◌-◌, ◌≤◌, length, Some, None, sym, refl, ap, ◌∙◌, subst, arith}
+use Rattle.std.proofs.Common.{◌≡◌, ◌-◌, length, Some, sym, ap, ◌∙◌, subst, arith}
 use Rattle.joinlaw.specs.Words.{letters}
 use Rattle.joinlaw.specs.Bridges.{bridge, next_row}
 use Rattle.joins.specs.Queue.{by}

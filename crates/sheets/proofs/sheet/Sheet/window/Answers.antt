@@ -1,4 +1,4 @@
-use Rattle.std.proofs.Common.{◌≡◌, ◌<◌, true, false, length, sym, refl, ap, ◌∙◌, ⊎_elim, arith}
+use Rattle.std.proofs.Common.{◌≡◌, ◌<◌, false, ap, ◌∙◌, ⊎_elim, arith}
 use Rattle.sheets.specs.Stages.{shown, full}
 use Rattle.sheets.proofs.Slides.{last_short, last-full}
 use Rattle.sheets.proofs.Planning.{length-shown, never_both}

@@ -1,4 +1,4 @@
-use Rattle.std.proofs.Common.{◌≡◌, ◌+◌, ◌-◌, length, get_or, take, set, sym, refl, ap, ◌∙◌, arith}
+use Rattle.std.proofs.Common.{◌≡◌, ◌+◌, ◌-◌, get_or, take, set, sym, ap, ◌∙◌, arith}
 use Rattle.sheets.proofs.Slides.{move_step, slid}
 use Rattle.sheets.proofs.window.Window.shift.Goals as goal
 
