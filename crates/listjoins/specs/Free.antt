@@ -19,7 +19,7 @@ abbrev pub Clear : {K : Type 0} → List (List K) → List K → Type 0
 Clear {K} ps s = (p : List K) → Has ps p → Occurs p s → ⊥
 
 abbrev pub Free : {K : Type 0} → List (List K) → List K → List K → List K → Type 0
-Free ps u v s = Begins u s × Ends v s × Clear ps s
+Free {K} ps u v s = Begins u s × Ends v s × ((p : List K) → Has ps p → Occurs p s → ⊥)
 
 abbrev pub FreeIs : {K : Type 0} → Alphabet K → List (List K) → List K → List K → Option (Bridge K) → Type 0
 FreeIs A ps u v (Some b) = Least A.number (Free ps u v) (u ++ row b v)

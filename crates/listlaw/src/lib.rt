@@ -4,6 +4,8 @@
 ghost use Rattle.listlaw.specs.Standing.{WordsStand};
 
 // The computed definitions say what they are named for.
-pub fn words_stand()
+pub fn words_stand() -> u8
     ensures { WordsStand }
-{}
+{
+    0
+}
