@@ -17,16 +17,16 @@ fn written(page: &mut [u8], width: usize, n: usize) -> usize {
 fn numbers_stand_in_columns(rt: HostRuntime) {
     let mut page = [b'.'; 24];
     assert_eq!(rt; written(&mut page, 6, 0), 6);
-    assert_eq!(rt; &page[0..7], b"     0.");
+    assert_eq!(rt; &page[0..7], b"     0.".as_slice());
     assert_eq!(rt; written(&mut page, 6, 999999), 6);
-    assert_eq!(rt; &page[0..7], b"999999.");
+    assert_eq!(rt; &page[0..7], b"999999.".as_slice());
     assert_eq!(rt; written(&mut page, 6, 1000000), 7);
-    assert_eq!(rt; &page[0..8], b"1000000.");
+    assert_eq!(rt; &page[0..8], b"1000000.".as_slice());
     assert_eq!(rt; written(&mut page, 4, 18446744073709551615), 20);
-    assert_eq!(rt; &page[0..21], b"18446744073709551615.");
+    assert_eq!(rt; &page[0..21], b"18446744073709551615.".as_slice());
     let mut short = [b'.'; 3];
     assert_eq!(rt; written(&mut short, 6, 7), 3);
-    assert_eq!(rt; &short[..], b"   ");
+    assert_eq!(rt; &short[..], b"   ".as_slice());
     assert_eq!(rt; written(&mut [], 6, 7), 0);
 }
 
@@ -192,7 +192,7 @@ fn a_refusal_is_one_line(rt: HostRuntime) {
     }
     .show(&mut page);
     assert_eq!(rt; page.used(), 19);
-    assert_eq!(rt; &bytes[0..20], b"R   8J     4    12\n.");
+    assert_eq!(rt; &bytes[0..20], b"R   8J     4    12\n.".as_slice());
     for (fault, byte) in [
         (Fault::no_letter(1), b'L'),
         (Fault::bad_length(13), b'P'),

@@ -1,12 +1,12 @@
 // The worked examples, as one statement over a list, on the definitions that the contracts cite.
 #![tactic(auto)]
 
-ghost use Rattle.std.specs.List.{AllByRecursion as All};
+ghost use Rattle.std.specs.List.{AllByRecursion};
 ghost use Rattle.examples.specs.Examples.{Holds, examples};
 
 // Every example comes out as it is written.
 pub fn examples_hold() -> u8
-    ensures { All Holds examples }
+    ensures { AllByRecursion Holds examples }
 {
     0
 }

@@ -38,7 +38,7 @@ fn joined_by_a_filling(rt: HostRuntime) {
     assert_eq!(rt; printed.length, 142);
     assert_eq!(rt;
         &out[0..143],
-        b"kind A: ab\npatterns: 3\nrun limit: none\nautomaton: 9 states, memory 3\nleft: 3 letters\nright: 3 letters\noverlap: 0\nfilled: 2\nlength: 8\naabbbaba\n."
+        b"kind A: ab\npatterns: 3\nrun limit: none\nautomaton: 9 states, memory 3\nleft: 3 letters\nright: 3 letters\noverlap: 0\nfilled: 2\nlength: 8\naabbbaba\n.".as_slice()
     );
 }
 
@@ -50,7 +50,7 @@ fn joined_by_an_overlap(rt: HostRuntime) {
     assert_eq!(rt; printed.length, 134);
     assert_eq!(rt;
         &out[0..135],
-        b"kind A: ab\npatterns: 0\nrun limit: 2\nautomaton: 5 states, memory 2\nleft: 2 letters\nright: 2 letters\noverlap: 1\nfilled: 0\nlength: 3\naba\n."
+        b"kind A: ab\npatterns: 0\nrun limit: 2\nautomaton: 5 states, memory 2\nleft: 2 letters\nright: 2 letters\noverlap: 1\nfilled: 0\nlength: 3\naba\n.".as_slice()
     );
 }
 

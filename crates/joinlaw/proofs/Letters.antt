@@ -2,20 +2,20 @@
 use Rattle.std.proofs.Common.{◌≡◌, ℕ, zero, suc, ◌<◌, ◌≤◌, List, [], ◌∷◌, ◌++◌, Some, None, Option, sym, refl, ap, ◌∙◌, subst, ⊎_elim, arith}
 use mathlib.Core.List.Memᴰ
 use mathlib.Core.List.{Memᴰ}
-use Rattle.std.specs.List.{AllByRecursion as All}
+use Rattle.std.specs.List.{AllByRecursion}
 use Rattle.std.proofs.ByRecursion.{All-push, All-weaker}
 use Rattle.std.proofs.lemmas.Bool.{cases_lt}
 use Rattle.models.specs.Alphabet.{Alphabet, Numbered, Bears}
 use Rattle.joinlaw.specs.Words.{letters, letters_below, listed, Ascending, Over}
 
-ascending_push : {K : Type 0} (number : K → ℕ) (x : K) (xs : List K) → Ascending number xs → All (λ y. number y < number x) xs → Ascending number (xs ++ (x ∷ []))
+ascending_push : {K : Type 0} (number : K → ℕ) (x : K) (xs : List K) → Ascending number xs → AllByRecursion (λ y. number y < number x) xs → Ascending number (xs ++ (x ∷ []))
 ascending_push number x [] a h = (tt, tt)
 ascending_push number x (y ∷ xs) a h = (All-push (λ z. number y < number z) xs x a.0 h.0, ascending_push number x xs a.1 h.1)
 
 module _ {K : Type 0} (A : Alphabet K) (numbered : Numbered A) where
   record Below (n : ℕ) (xs : List K) : Type 0 where
     ascending : Ascending A.number xs
-    low : All (λ y. A.number y < n) xs
+    low : AllByRecursion (λ y. A.number y < n) xs
 
   below_more : (n : ℕ) (xs : List K) (o : Option K) → Bears A.number n o → Below n xs → Below (suc n) (xs ++ listed o)
   below_more n xs (Some x) e b = record {

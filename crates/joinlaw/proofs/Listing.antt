@@ -2,7 +2,7 @@
 use Rattle.std.proofs.Common.{◌≡◌, ℕ, zero, suc, ◌<◌, Bool, true, false, cond, List, [], ◌∷◌, ◌++◌, map, length, Some, None, Option, sym, refl, ap, ◌∙◌, subst, inl, inr, ⊎_elim, arith}
 use mathlib.Core.List.Memᴰ
 use mathlib.Core.List.{Memᴰ}
-use Rattle.std.specs.List.{flat_map, AllByRecursion as All}
+use Rattle.std.specs.List.{flat_map, AllByRecursion}
 use Rattle.std.proofs.lemmas.Bool.{cases_lt, both_ways}
 use Rattle.models.specs.Strings.{Before, Leads}
 use Rattle.joinlaw.specs.Words.{Ascending, Over, words, words_below, first_that}
@@ -66,7 +66,7 @@ module _ {K : Type 0} (number : K → ℕ) (fill : List K) where
   ToldIn test d xs (Some z) = FirstIn test d xs z
   ToldIn test d xs None = (x : K) (y : List K) → Memᴰ x xs → Over fill y → length y ≡ d → test (x ∷ y) ≡ true → ⊥
 
-  all-member : (P : K → Type 0) (a : K) (xs : List K) → All P xs → Memᴰ a xs → P a
+  all-member : (P : K → Type 0) (a : K) (xs : List K) → AllByRecursion P xs → Memᴰ a xs → P a
   all-member P a [] h m = absurd (Memᴰ.not-nil m)
   all-member P a (x ∷ xs) h m = ⊎_elim (λ e. subst P (sym e) h.0) (λ r. all-member P a xs h.1 r) (Memᴰ.cases_cons m)
 
@@ -77,7 +77,7 @@ module _ {K : Type 0} (number : K → ℕ) (fill : List K) where
     fails [] o l r = both_ways (test []) e r
     fails (x ∷ y) o l r = omega arith
 
-  told_more : (test : List K → Bool) (d : ℕ) (x : K) (xs : List K) → Memᴰ x fill → All (λ y. number x < number y) xs → (o p : Option (List K)) → Told (λ w. test (x ∷ w)) d o → ToldIn test d xs p → ToldIn test d (x ∷ xs) (or_else (after x o) p)
+  told_more : (test : List K → Bool) (d : ℕ) (x : K) (xs : List K) → Memᴰ x fill → AllByRecursion (λ y. number x < number y) xs → (o p : Option (List K)) → Told (λ w. test (x ∷ w)) d o → ToldIn test d xs p → ToldIn test d (x ∷ xs) (or_else (after x o) p)
   told_more test d x xs in-fill low (Some w) p t u = record {
     passes = t.passes;
     long = ap suc t.long;

@@ -10,7 +10,7 @@
 --   first_that test ws     the first string of ws that passes a test
 use Rattle.std.specs.Prelude.{ℕ, zero, suc, ◌<◌, Bool, cond, List, [], ◌∷◌, ◌++◌, map, Some, None, Option}
 use mathlib.Core.List.{Memᴰ}
-use Rattle.std.specs.List.{flat_map, AllByRecursion as All}
+use Rattle.std.specs.List.{flat_map, AllByRecursion}
 use Rattle.models.specs.Alphabet.{Alphabet}
 
 abbrev pub listed : {K : Type 0} → Option K → List K
@@ -26,10 +26,10 @@ letters A = letters_below A A.size
 
 abbrev pub Ascending : {K : Type 0} → (K → ℕ) → List K → Type 0
 Ascending number [] = Unit {0}
-Ascending number (x ∷ xs) = All (λ y. number x < number y) xs × Ascending number xs
+Ascending number (x ∷ xs) = AllByRecursion (λ y. number x < number y) xs × Ascending number xs
 
 abbrev pub Over : {K : Type 0} → List K → List K → Type 0
-Over fill z = All (λ x. Memᴰ x fill) z
+Over fill z = AllByRecursion (λ x. Memᴰ x fill) z
 
 abbrev pub words : {K : Type 0} → List K → ℕ → List (List K)
 words fill zero = [] ∷ []

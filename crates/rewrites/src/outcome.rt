@@ -6,7 +6,8 @@ ghost use Rattle.pages.specs.Pages.{over, Wrote};
 ghost use Rattle.rewrites.specs.Fits.{Roomy, alone, paired};
 ghost use Rattle.rewritelaw.specs.Laws.{GoodLaw, FirstLaw};
 ghost use Rattle.rewritelaw.specs.Traces.{left_as};
-ghost use Rattle.rewritelaw.specs.Outcomes.{body as body_of, told, outcome, printed as printed_of, written as is_written};
+ghost use Rattle.rewritelaw.specs.Outcomes.{body as body_of, told, outcome as whole, printed as printed_whole, written as whole_written};
+ghost use Rattle.rewrites.specs.Outcomes.{outcome, printed as printed_of, written as is_written};
 
 use crate::report::show;
 use crate::settings::rewrite_limited;
@@ -70,8 +71,8 @@ fn print_body<L: Printable>(
 ) -> bool
     requires alone { Roomy (alone L.row ⟦<Listed<'static, L> as Automaton>⟧ L.Letter) }
     requires paired { Roomy (paired L.row ⟦<Pair<Listed<'static, L>, Run<L>> as Automaton>⟧ L.Letter) }
-    ensures page { Wrote page.old page.new (printed_of (told L.Letter.alphabet L.Printable.printed (body_of L.Letter.alphabet L.Printable.parsed (length records.old) (length words.old) text.old work.old (lines.old.number + 1) (items lines.old.rest.now)).answer (body_of L.Letter.alphabet L.Printable.parsed (length records.old) (length words.old) text.old work.old (lines.old.number + 1) (items lines.old.rest.now)).table)) }
-    ensures written { result ≡ is_written (told L.Letter.alphabet L.Printable.printed (body_of L.Letter.alphabet L.Printable.parsed (length records.old) (length words.old) text.old work.old (lines.old.number + 1) (items lines.old.rest.now)).answer (body_of L.Letter.alphabet L.Printable.parsed (length records.old) (length words.old) text.old work.old (lines.old.number + 1) (items lines.old.rest.now)).table) }
+    ensures page { Wrote page.old page.new (printed_whole (told L.Letter.alphabet L.Printable.printed (body_of L.Letter.alphabet L.Printable.parsed (length records.old) (length words.old) text.old work.old (lines.old.number + 1) (items lines.old.rest.now)).answer (body_of L.Letter.alphabet L.Printable.parsed (length records.old) (length words.old) text.old work.old (lines.old.number + 1) (items lines.old.rest.now)).table)) }
+    ensures written { result ≡ whole_written (told L.Letter.alphabet L.Printable.printed (body_of L.Letter.alphabet L.Printable.parsed (length records.old) (length words.old) text.old work.old (lines.old.number + 1) (items lines.old.rest.now)).answer (body_of L.Letter.alphabet L.Printable.parsed (length records.old) (length words.old) text.old work.old (lines.old.number + 1) (items lines.old.rest.now)).table) }
     ensures text { text.new ≡ (body_of L.Letter.alphabet L.Printable.parsed (length records.old) (length words.old) text.old work.old (lines.old.number + 1) (items lines.old.rest.now)).table }
     ensures work { work.new ≡ (body_of L.Letter.alphabet L.Printable.parsed (length records.old) (length words.old) text.old work.old (lines.old.number + 1) (items lines.old.rest.now)).work }
 {
@@ -99,12 +100,12 @@ fn print_file(
     work: &mut [u16],
     page: &mut Page<'_>,
 ) -> bool
-    ensures page { Wrote page.old page.new (printed_of (outcome (length records.old) (length words.old) two.old trend.old seepage.old work.old input.now).answer) }
-    ensures written { result ≡ is_written (outcome (length records.old) (length words.old) two.old trend.old seepage.old work.old input.now).answer }
-    ensures two { two.new ≡ (outcome (length records.old) (length words.old) two.old trend.old seepage.old work.old input.now).two }
-    ensures trend { trend.new ≡ (outcome (length records.old) (length words.old) two.old trend.old seepage.old work.old input.now).trend }
-    ensures seepage { seepage.new ≡ (outcome (length records.old) (length words.old) two.old trend.old seepage.old work.old input.now).seepage }
-    ensures work { work.new ≡ (outcome (length records.old) (length words.old) two.old trend.old seepage.old work.old input.now).work }
+    ensures page { Wrote page.old page.new (printed_whole (whole (length records.old) (length words.old) two.old trend.old seepage.old work.old input.now).answer) }
+    ensures written { result ≡ whole_written (whole (length records.old) (length words.old) two.old trend.old seepage.old work.old input.now).answer }
+    ensures two { two.new ≡ (whole (length records.old) (length words.old) two.old trend.old seepage.old work.old input.now).two }
+    ensures trend { trend.new ≡ (whole (length records.old) (length words.old) two.old trend.old seepage.old work.old input.now).trend }
+    ensures seepage { seepage.new ≡ (whole (length records.old) (length words.old) two.old trend.old seepage.old work.old input.now).seepage }
+    ensures work { work.new ≡ (whole (length records.old) (length words.old) two.old trend.old seepage.old work.old input.now).work }
 {
     if input.len() > INPUT {
         return print_refusal(early(), page);
@@ -121,7 +122,8 @@ fn print_file(
 // Rewrites the trace of a station file, and writes the text and its counts or the refusal line to the front of `out`.
 // The list of the file's patterns is built on `records` and `words`; the text table is the one of the file's kind.
 //
-// `out`, `length` and `written` are what is printed, by the definition of the file; then what each table holds. `good`
+// `out`, `length` and `written` are what is printed, by the definition of the file; `whole` and `whole_written` that it is
+// the same with an account of what each table holds then, which the next clauses give by that account. `good`
 // says of a good file that its text is the shortest that keeps the windows of its trace, with its counts, and `first`
 // of a refused one that the refusal is the first in file order.
 pub fn rewrite_file(
@@ -134,13 +136,15 @@ pub fn rewrite_file(
     work: &mut [u16],
     out: &mut [u8],
 ) -> Printed
-    ensures out { out.new ≡ over (printed_of (outcome (length records.old) (length words.old) two.old trend.old seepage.old work.old input.now).answer) out.old }
-    ensures length { result.length ≡ min (length (printed_of (outcome (length records.old) (length words.old) two.old trend.old seepage.old work.old input.now).answer)) (length out.old) }
-    ensures written { result.written ≡ is_written (outcome (length records.old) (length words.old) two.old trend.old seepage.old work.old input.now).answer }
-    ensures two { two.new ≡ (outcome (length records.old) (length words.old) two.old trend.old seepage.old work.old input.now).two }
-    ensures trend { trend.new ≡ (outcome (length records.old) (length words.old) two.old trend.old seepage.old work.old input.now).trend }
-    ensures seepage { seepage.new ≡ (outcome (length records.old) (length words.old) two.old trend.old seepage.old work.old input.now).seepage }
-    ensures work { work.new ≡ (outcome (length records.old) (length words.old) two.old trend.old seepage.old work.old input.now).work }
+    ensures out { out.new ≡ over (printed_of (outcome (length records.old) (length words.old) (length work.old) two.old trend.old seepage.old input.now)) out.old }
+    ensures length { result.length ≡ min (length (printed_of (outcome (length records.old) (length words.old) (length work.old) two.old trend.old seepage.old input.now))) (length out.old) }
+    ensures written { result.written ≡ is_written (outcome (length records.old) (length words.old) (length work.old) two.old trend.old seepage.old input.now) }
+    ensures whole { printed_of (outcome (length records.old) (length words.old) (length work.old) two.old trend.old seepage.old input.now) ≡ printed_whole (whole (length records.old) (length words.old) two.old trend.old seepage.old work.old input.now).answer }
+    ensures whole_written { is_written (outcome (length records.old) (length words.old) (length work.old) two.old trend.old seepage.old input.now) ≡ whole_written (whole (length records.old) (length words.old) two.old trend.old seepage.old work.old input.now).answer }
+    ensures two { two.new ≡ (whole (length records.old) (length words.old) two.old trend.old seepage.old work.old input.now).two }
+    ensures trend { trend.new ≡ (whole (length records.old) (length words.old) two.old trend.old seepage.old work.old input.now).trend }
+    ensures seepage { seepage.new ≡ (whole (length records.old) (length words.old) two.old trend.old seepage.old work.old input.now).seepage }
+    ensures work { work.new ≡ (whole (length records.old) (length words.old) two.old trend.old seepage.old work.old input.now).work }
     ensures good { GoodLaw (length records.old) (length words.old) two.old trend.old seepage.old work.old input.now }
     ensures first { FirstLaw (length records.old) (length words.old) two.old trend.old seepage.old work.old input.now }
 {

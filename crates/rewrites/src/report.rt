@@ -45,11 +45,7 @@ fn show_sheet<L: Printable>(counts: Counts, table: &[L], page: &mut Page<'_>)
 }
 
 // Writes the text and the counts, or the refusal line, and answers whether it was a text.
-pub(crate) fn show<L: Printable>(
-    answer: Result<Counts, Refusal>,
-    table: &[L],
-    page: &mut Page<'_>,
-) -> bool
+pub fn show<L: Printable>(answer: Result<Counts, Refusal>, table: &[L], page: &mut Page<'_>) -> bool
     ensures page { Wrote page.old page.new (printed_of (told L.Letter.alphabet L.Printable.printed answer table.now)) }
     ensures written { result ≡ written (told L.Letter.alphabet L.Printable.printed answer table.now) }
 {

@@ -18,7 +18,7 @@ use sheetlaw::Counts;
 use sheets::Sheet;
 
 // Rewrites a trace on a sheet of its own; the text is then the front of `text`.
-pub(crate) fn rewrite<S: Automaton + Drop>(
+pub fn rewrite<S: Automaton + Drop>(
     automaton: S,
     k: u16,
     trace: &[u8],
@@ -54,7 +54,7 @@ where
 }
 
 // The same under an automaton, and under the run automaton too where there is a limit.
-pub(crate) fn rewrite_limited<P: Automaton + Drop>(
+pub fn rewrite_limited<P: Automaton + Drop>(
     automaton: P,
     limit: Option<u16>,
     k: u16,

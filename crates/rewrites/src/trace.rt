@@ -1,7 +1,8 @@
 // A trace given to a sheet, byte by byte.
-ghost use Rattle.std.specs.Prelude.{◌≡◌};
+ghost use Rattle.std.specs.Prelude.{◌≡◌, length};
 ghost use Rattle.sheets.specs.Views.{contents};
-ghost use Rattle.rewritelaw.specs.Traces.{refusal, fed, fed_as, fed_byte, fed_letter};
+ghost use Rattle.rewritelaw.specs.Traces.{refusal, fed as fed_whole, fed_as as fed_whole_as, fed_byte, fed_letter};
+ghost use Rattle.rewrites.specs.Traces.{fed, fed_as};
 
 use automata::Automaton;
 use faults::Fault;
@@ -32,7 +33,7 @@ fn feed_letter<S: Automaton>(
 ) -> Result<(), Fault>
 where
     S::Kind: Printable,
-    ensures fed { fed_as result (contents sheet.new) text.new work.new ≡ fed_letter S.Kind.Letter.alphabet S.Kind.Printable.parsed (S.model sheet.old.automaton) sheet.old.k place read (contents sheet.old) text.old work.old }
+    ensures fed { fed_whole_as result (contents sheet.new) text.new work.new ≡ fed_letter S.Kind.Letter.alphabet S.Kind.Printable.parsed (S.model sheet.old.automaton) sheet.old.k place read (contents sheet.old) text.old work.old }
     ensures keeps { (sheet.new.k ≡ sheet.old.k) × (sheet.new.automaton ≡ sheet.old.automaton) }
 {
     match read {
@@ -51,7 +52,7 @@ fn feed_byte<S: Automaton>(
 ) -> Result<(), Fault>
 where
     S::Kind: Printable,
-    ensures fed { fed_as result (contents sheet.new) text.new work.new ≡ fed_byte S.Kind.Letter.alphabet S.Kind.Printable.parsed (S.model sheet.old.automaton) sheet.old.k place byte (contents sheet.old) text.old work.old }
+    ensures fed { fed_whole_as result (contents sheet.new) text.new work.new ≡ fed_byte S.Kind.Letter.alphabet S.Kind.Printable.parsed (S.model sheet.old.automaton) sheet.old.k place byte (contents sheet.old) text.old work.old }
     ensures keeps { (sheet.new.k ≡ sheet.old.k) × (sheet.new.automaton ≡ sheet.old.automaton) }
 {
     if byte == GAP {
@@ -61,7 +62,7 @@ where
     }
 }
 
-// The trace up to its end, or to the first byte that is refused.
+// The trace up to its end, or to the first byte that is refused. `fed_whole` tells what is left in the work table too.
 pub fn feed<S: Automaton>(
     sheet: &mut Sheet<S>,
     trace: &[u8],
@@ -70,7 +71,8 @@ pub fn feed<S: Automaton>(
 ) -> Result<(), Fault>
 where
     S::Kind: Printable,
-    ensures fed { fed_as result (contents sheet.new) text.new work.new ≡ fed S.Kind.Letter.alphabet S.Kind.Printable.parsed (S.model sheet.old.automaton) sheet.old.k 0 trace.now (contents sheet.old) text.old work.old }
+    ensures fed { fed_as result (contents sheet.new) text.new ≡ fed S.Kind.Letter.alphabet S.Kind.Printable.parsed (S.model sheet.old.automaton) sheet.old.k (length work.old) 0 trace.now (contents sheet.old) text.old }
+    ensures fed_whole { fed_whole_as result (contents sheet.new) text.new work.new ≡ fed_whole S.Kind.Letter.alphabet S.Kind.Printable.parsed (S.model sheet.old.automaton) sheet.old.k 0 trace.now (contents sheet.old) text.old work.old }
     ensures keeps { (sheet.new.k ≡ sheet.old.k) × (sheet.new.automaton ≡ sheet.old.automaton) }
 {
     for (place, byte) in trace.iter().enumerate() {

@@ -4,7 +4,7 @@ use mathlib.Core.List.{reverse-append, reverse-reverse, reverse-cons}
 use Rattle.std.proofs.ByRecursion.{All-push}
 use Rattle.std.proofs.lemmas.List.{map-append}
 use Rattle.std.proofs.lemmas.Bool.{cases_lt, cases_eq, eq-eqb, ne_eqb}
-use Rattle.std.specs.List.{AllByRecursion as All}
+use Rattle.std.specs.List.{AllByRecursion}
 use Rattle.models.specs.Alphabet.{Alphabet, Numbered}
 use Rattle.models.specs.Automaton.{Passes}
 use Rattle.models.proofs.ByNumber.{walk-by}
@@ -26,7 +26,7 @@ lead_split (suc n) a [] h = absurd (omega arith)
 lead_split (suc n) a (x ∷ ys) h =
     ⊎_elim (λ e. let k : lead a (x ∷ ys) ≡ suc (lead a ys) = ap (λ b. cond b (suc (lead a ys)) 0) (eq-eqb x a e) in ap (λ y. y ∷ ys) e ∙ ap (λ l. a ∷ l) (lead_split n a ys (omega arith))) (λ e. let k : lead a (x ∷ ys) ≡ 0 = ap (λ b. cond b (suc (lead a ys)) 0) (ne_eqb x a e) in absurd (omega arith)) (cases_eq x a)
 
-fine_from : (r c : ℕ) (ys : List ℕ) → All (λ a. a < c) ys → Even r ys → Fine r c ys
+fine_from : (r c : ℕ) (ys : List ℕ) → AllByRecursion (λ a. a < c) ys → Even r ys → Fine r c ys
 unfolding Even
 fine_from r c [] h s = tt
 fine_from r c (a ∷ ys) h s =
@@ -41,7 +41,7 @@ even_reverse r xs s us vs a e =
     sym (reverse-reverse xs) ∙ ap reverse e ∙ reverse-append us (replicate (suc r) a ++ vs) ∙ ap (λ w. w ++ reverse us) (reverse-append (replicate (suc r) a) vs) ∙ append_assoc (reverse vs) (reverse (replicate (suc r) a)) (reverse us) ∙ ap (λ w. reverse vs ++ (w ++ reverse us)) (reverse-replicate (suc r) a) in
     s (reverse vs) (reverse us) a back
 
-all-reverse : (c : ℕ) (ys : List ℕ) → All (λ a. a < c) ys → All (λ a. a < c) (reverse ys)
+all-reverse : (c : ℕ) (ys : List ℕ) → AllByRecursion (λ a. a < c) ys → AllByRecursion (λ a. a < c) (reverse ys)
 all-reverse c [] h = tt
 all-reverse c (a ∷ ys) h = rw reverse-cons (All-push (λ a. a < c) (reverse ys) a (all-reverse c ys h.1) h.0)
 
@@ -53,7 +53,7 @@ even_from r c l xs p us vs a e =
     let f : Fine r c (replicate (suc r) a) = subst (Fine r c) (reverse-replicate (suc r) a) (fine_from_passes r c l (replicate (suc r) a) part) in
     omega (arith, f.1, lead-replicate r a)
 
-passes-from : (r c : ℕ) → 1 ≤ r → (xs : List ℕ) → All (λ a. a < c) xs → Even r xs → Passes (run_next r c) 0 xs
+passes-from : (r c : ℕ) → 1 ≤ r → (xs : List ℕ) → AllByRecursion (λ a. a < c) xs → Even r xs → Passes (run_next r c) 0 xs
 passes-from r c l xs h s = passes_from_fine r c l xs (fine_from r c (reverse xs) (all-reverse c xs h) (even_reverse r xs s))
 
 -- From numbers to letters.
@@ -62,7 +62,7 @@ module _ {K : Type 0} (A : Alphabet K) (N : Numbered A) where
   map-replicate zero a = refl
   map-replicate (suc n) a = ap (λ l. A.number a ∷ l) (map-replicate n a)
 
-  all-below : (xs : List K) → All (λ a. a < A.size) (map A.number xs)
+  all-below : (xs : List K) → AllByRecursion (λ a. a < A.size) (map A.number xs)
   all-below [] = tt
   all-below (x ∷ xs) = (N.below x, all-below xs)
 

@@ -1,6 +1,6 @@
 -- Small sheets over two letters, computed from the definitions alone: 0 and 1 are letters, 2 stands for a gap.
 use Rattle.std.proofs.Common.{◌≡◌, ℕ, zero, suc, ◌+◌, ◌*◌, ◌%◌, ◌^◌, Bool, true, false, cond, ◌&&◌, ◌||◌, eqb, ltb, List, [], ◌∷◌, ◌++◌, map, length, replicate, Some, None, Ok, Err, Option, Result, refl}
-use Rattle.std.specs.List.{AllByRecursion as All}
+use Rattle.std.specs.List.{AllByRecursion}
 use Rattle.faults.specs.declared.Fault.{Fault}
 use Rattle.faults.specs.Causes.{short_work, no_string, short_text}
 use Rattle.models.specs.Automaton.{Model, last}
@@ -171,6 +171,6 @@ examples =
     }
     ∷ []
 
-computed : All Computes examples
+computed : AllByRecursion Computes examples
 computed =
     ((refl, refl, refl), ((refl, refl, refl), ((refl, refl, refl), ((refl, refl, refl), ((refl, refl, refl), ((refl, refl, refl), ((refl, refl, refl), tt)))))))

@@ -3,7 +3,7 @@
 --   Within s n e ws   the windows ws stand in s at strictly rising places, one for each, from the place n on and below e
 use Rattle.std.proofs.Common.{ℕ, ◌+◌, ◌<◌, ◌≤◌, List, [], ◌∷◌, ◌++◌, length, drop, refl, ap, ◌∙◌, append_assoc, arith}
 use Rattle.std.proofs.lemmas.List.{drop-append-le, drop_at}
-use Rattle.std.specs.List.{AllByRecursion as All}
+use Rattle.std.specs.List.{AllByRecursion}
 use Rattle.sheetlaw.specs.Rivals.{At, Rises}
 use Rattle.sheetlaw.proofs.Passing.{at_fits}
 
@@ -45,6 +45,6 @@ module _ {K : Type 0} where
   within_push s n e p (v ∷ ws) w l b (q, f, d, c, i) a = (q, f, omega arith, c, within_push s (q + 1) e p ws w (omega arith) b i a)
 
   -- windows stay where they stand as the string grows
-  pub within_more : (s r : List K) (n e : ℕ) (ws : List (List K)) → All (λ w. 0 < length w) ws → Within s n e ws → Within (s ++ r) n e ws
+  pub within_more : (s r : List K) (n e : ℕ) (ws : List (List K)) → AllByRecursion (λ w. 0 < length w) ws → Within s n e ws → Within (s ++ r) n e ws
   within_more s r n e [] z i = tt
   within_more s r n e (w ∷ ws) z (p, l, b, a, i) = (p, l, b, at_more w s r p z.0 a, within_more s r (p + 1) e ws z.1 i)

@@ -3,7 +3,7 @@
 --   Built o ws t   t is the text of the kept windows ws, of which o is the last
 use Rattle.std.proofs.Common.{◌≡◌, ℕ, ◌+◌, ◌-◌, ◌<◌, ◌≤◌, List, [], ◌∷◌, ◌++◌, length, Some, None, Option, sym, refl, ap, ◌∙◌, subst, inl, inr, append_assoc, append-nil, arith, length-append}
 use Rattle.std.proofs.ByRecursion.{All-push, All-weaker}
-use Rattle.std.specs.List.{AllByRecursion as All}
+use Rattle.std.specs.List.{AllByRecursion}
 use Rattle.models.specs.Automaton.{Model, Lawful, Pass}
 use Rattle.models.specs.Strings.{Ends, Before, Leads, Least}
 use Rattle.sheetlaw.specs.Rivals.{At, Has, Rival}
@@ -28,7 +28,7 @@ module _ {K : Type 0} (m : Model K) (k : ℕ) where
     pub front : List K
     pub ends : t ≡ front ++ w
     pub before : Within t 0 (length front) us
-    pub sized : All (λ u. length u ≡ k) us
+    pub sized : AllByRecursion (λ u. length u ≡ k) us
     pub low : (s : List K) (p : ℕ) → Pass m s → At w p s → Within s 0 p us → length t ≤ p + k
 
   abbrev pub Built : Option (List K) → List (List K) → List K → Type 0
@@ -55,14 +55,14 @@ module _ {K : Type 0} (m : Model K) (laws : Lawful m) (k : ℕ) (some : 2 ≤ k)
 
   -- the windows stand in the text with its new row, before the new window
   placed : (o : Option (List K)) (ws : List (List K)) (t w r : List K) → Built m k o ws t → length w ≡ k → (f : Continues m t w r)
-      → Within (t ++ r) 0 (length f.2.0) ws × All (λ u. length u ≡ k) ws
+      → Within (t ++ r) 0 (length f.2.0) ws × AllByRecursion (λ u. length u ≡ k) ws
   placed None ws t w r (e, _) l f = rw e (tt, tt)
   placed (Some u) ws t w r (us, e, b) l f =
       let lu : length u ≡ k = b.whole in
       let n : length t + length r ≡ length f.2.0 + length w = sym (length-append t r) ∙ ap length f.2.1 ∙ length-append f.2.0 w in
       let n' : length t ≡ length b.front + length u = ap length b.ends ∙ length-append b.front u in
       let here : At u (length b.front) (t ++ r) = rw b.ends (at-put b.front u r) in
-      let some-letters : All (λ v. 0 < length v) us = All-weaker (λ v. length v ≡ k) (λ v. 0 < length v) (λ v x. omega arith) us b.sized in
+      let some-letters : AllByRecursion (λ v. 0 < length v) us = All-weaker (λ v. length v ≡ k) (λ v. 0 < length v) (λ v x. omega arith) us b.sized in
       rw e (
         within_push (t ++ r) 0 (length f.2.0) (length b.front) us u (omega arith) (omega (arith, f.0)) (within_more t r 0 (length b.front) us some-letters b.before) here,
         All-push (λ v. length v ≡ k) us u b.sized lu,

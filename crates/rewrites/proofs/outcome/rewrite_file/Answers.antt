@@ -1,20 +1,27 @@
-use Rattle.std.proofs.Common.{[], length, ◌∙◌, rules}
+use Rattle.std.proofs.Common.{[], length, sym, ◌∙◌, rules}
+use Rattle.rewrites.proofs.Agreeing.{same_printed, same_written}
 use Rattle.rewritelaw.proofs.Goods.{good}
 use Rattle.rewritelaw.proofs.Orders.{first}
 use Rattle.rewrites.proofs.outcome.rewrite_file.Goals as goal
 
 pub returns : goal.returns
 returns c =
+    let n = length c.args.records.now in
+    let w = length c.args.words.now in
+    let printed = same_printed n w c.args.two.now c.args.trend.now c.args.seepage.now c.args.work.now c.args.input.now in
+    let written = same_written n w c.args.two.now c.args.trend.now c.args.seepage.now c.args.work.now c.args.input.now in
     let text = c.print_file-written.ensures.page.text [] c.args.out.now c.new-page.ensures.fresh in
     let same = c.print_file-written.ensures.page.page ∙ c.new-page.ensures.page in
     record {
-      out = search rules;
-      length = c.used.ensures ∙ text.1;
-      written = c.print_file-written.ensures.written;
+      out = rw printed (search rules);
+      length = rw printed (c.used.ensures ∙ text.1);
+      written = c.print_file-written.ensures.written ∙ sym written;
+      whole = printed;
+      whole_written = written;
       two = c.print_file-written.ensures.two;
       trend = c.print_file-written.ensures.trend;
       seepage = c.print_file-written.ensures.seepage;
       work = c.print_file-written.ensures.work;
-      good = good (length c.args.records.now) (length c.args.words.now) c.args.two.now c.args.trend.now c.args.seepage.now c.args.work.now c.args.input.now;
-      first = first (length c.args.records.now) (length c.args.words.now) c.args.two.now c.args.trend.now c.args.seepage.now c.args.work.now c.args.input.now;
+      good = good n w c.args.two.now c.args.trend.now c.args.seepage.now c.args.work.now c.args.input.now;
+      first = first n w c.args.two.now c.args.trend.now c.args.seepage.now c.args.work.now c.args.input.now;
     }

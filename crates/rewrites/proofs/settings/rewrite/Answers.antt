@@ -23,7 +23,7 @@ returns-in_err-feed g c =
     let s = contents c.feed.new.sheet in
     let o = c.in_ok-sheet.ensures in
     let p = err_from_is_err_and c.from_residual-in_err-feed.result c.from_residual-in_err-feed.ensures.1 in
-    let whole = ran A parsed m c.args.k c.args.trace.now c.args.text.now c.args.work.now (contents c.in_ok-sheet.sheet) s t v c.feed.result _ _ o.0 (ap g.S.Automaton.model o.2) o.1 c.feed.ensures.fed in
+    let whole = ran A parsed m c.args.k c.args.trace.now c.args.text.now c.args.work.now (contents c.in_ok-sheet.sheet) s t v c.feed.result _ _ o.0 (ap g.S.Automaton.model o.2) o.1 c.feed.ensures.fed_whole in
     ap (λ r. left_as r t v) (p.1 ∙ ap Err p.2)
     ∙ subst (λ r. left_as (bind r (λ _. Ok (close s))) t v ≡ rewritten A parsed m c.args.k c.args.trace.now c.args.text.now c.args.work.now) c.in_err-feed.was whole
 
@@ -36,6 +36,6 @@ returns g c =
     let v = c.feed.new.work in
     let s = contents c.feed.new.sheet in
     let o = c.in_ok-sheet.ensures in
-    let whole = ran A parsed m c.args.k c.args.trace.now c.args.text.now c.args.work.now (contents c.in_ok-sheet.sheet) s t v c.feed.result _ _ o.0 (ap g.S.Automaton.model o.2) o.1 c.feed.ensures.fed in
+    let whole = ran A parsed m c.args.k c.args.trace.now c.args.text.now c.args.work.now (contents c.in_ok-sheet.sheet) s t v c.feed.result _ _ o.0 (ap g.S.Automaton.model o.2) o.1 c.feed.ensures.fed_whole in
     ap (λ n. left_as (Ok n) t v) c.close.ensures.counts
     ∙ subst (λ r. left_as (bind r (λ _. Ok (close s))) t v ≡ rewritten A parsed m c.args.k c.args.trace.now c.args.text.now c.args.work.now) c.in_ok-feed.was whole
