@@ -29,12 +29,17 @@ use Rattle.runlaw.specs.Runs.{run_model}
 use Rattle.pairlaw.specs.Pairs.{pair_model}
 use Rattle.rewritelaw.specs.Traces as whole
 use Rattle.rewritelaw.specs.Outcomes as entire
-use Rattle.rewrites.specs.Traces.{Fed, fed_as, fed_gap, go_on, fed_letter, fed_byte, fed, Sheeted, sheeted, told, closed, rewritten}
+use Rattle.rewritelaw.specs.Automata.{paired_up}
+use Rattle.rewrites.specs.Traces.{Fed, fed_as, refusal, fed_gap, go_on, fed_letter, fed_byte, fed, Sheeted, sheeted, told, closed, rewritten}
 use Rattle.rewrites.specs.Outcomes.{window_of, judged, body, body_of, outcome, printed, written}
 
 -- a stretch of the trace, but for the work table
 abbrev cut : {K : Type 0} → whole.Fed K → Fed K
 cut f = fed_as f.answer f.sheet f.table
+
+pub refusal_agrees : {T : Type 0} (r : Result T Fault) → refusal r ≡ whole.refusal r
+refusal_agrees (Ok a) = refl
+refusal_agrees (Err f) = refl
 
 module _ {K : Type 0} (A : Alphabet K) (parsed : ℕ → Option ℕ) (m : Model K) (k : ℕ) where
   letter_agrees : (i : ℕ) (o : Option K) (s : Contents K) (t : List K) (v : List ℕ) → fed_letter A parsed m k (length v) i o s t ≡ cut (whole.fed_letter A parsed m k i o s t v)
@@ -89,7 +94,15 @@ module _ {K : Type 0} (A : Alphabet K) (parsed : ℕ → Option ℕ) (m : Model 
       ∙ ap (λ (n : ℕ). go_on f.answer f.sheet f.table (fed A parsed m k n (i + 1) bs)) (sym (byte_long i b s t v))
       ∙ on_agrees f.answer f.sheet f.table f.work (fed A parsed m k (length f.work) (i + 1) bs) (whole.fed A parsed m k (i + 1) bs) (fed_agrees bs (i + 1) f.sheet f.table f.work)
 
-  -- what a stretch answers and leaves, but for the work table
+  -- what is answered and left, but for the work table: by a letter, by a byte, and by a stretch
+  pub letter_cut : (i : ℕ) (o : Option K) (s s' : Contents K) (t t' : List K) (v v' : List ℕ) (r : Result (Unit {0}) Fault)
+      → whole.fed_as r s' t' v' ≡ whole.fed_letter A parsed m k i o s t v → fed_as r s' t' ≡ fed_letter A parsed m k (length v) i o s t
+  letter_cut i o s s' t t' v v' r e = ap cut e ∙ sym (letter_agrees i o s t v)
+
+  pub byte_cut : (i b : ℕ) (s s' : Contents K) (t t' : List K) (v v' : List ℕ) (r : Result (Unit {0}) Fault)
+      → whole.fed_as r s' t' v' ≡ whole.fed_byte A parsed m k i b s t v → fed_as r s' t' ≡ fed_byte A parsed m k (length v) i b s t
+  byte_cut i b s s' t t' v v' r e = ap cut e ∙ sym (byte_agrees i b s t v)
+
   pub fed_cut : (bs : List ℕ) (i : ℕ) (s s' : Contents K) (t t' : List K) (v v' : List ℕ) (r : Result (Unit {0}) Fault)
       → whole.fed_as r s' t' v' ≡ whole.fed A parsed m k i bs s t v → fed_as r s' t' ≡ fed A parsed m k (length v) i bs s t
   fed_cut bs i s s' t t' v v' r e = ap cut e ∙ sym (fed_agrees bs i s t v)
@@ -155,6 +168,34 @@ module _ {K : Type 0} (A : Alphabet K) (parsed : ℕ → Option ℕ) (print : �
 
   body_agrees : (n w : ℕ) (t : List K) (v : List ℕ) (l : ℕ) (xs : List Item) → body A parsed print n w (length v) t l xs ≡ of_left (entire.body A parsed n w t v l xs)
   body_agrees n w t v l xs = read_agrees n w t v (listed A (reading A parsed) n w l fresh [] xs)
+
+  pair_agrees : (b : Bool) (x : Model K) (e : Fault) (t : List K) (v : List ℕ) (go : Model K → Result Sheeted Fault) (go' : Model K → whole.Left K Fault)
+      → ((m : Model K) → go m ≡ of_left (go' m)) → cond b (go x) (Err e) ≡ of_left (whole.unless_refused (cond b (Ok x) (Err e)) t v go')
+  pair_agrees true x e t v go go' each = each x
+  pair_agrees false x e t v go go' each = refl
+
+  -- what is told of a trace that left the tables t' and v': under one automaton, under two, and under those of the settings
+  module _ (k : ℕ) (bs : List ℕ) (t : List K) (v : List ℕ) (r : Result Counts Fault) (t' : List K) (v' : List ℕ) where
+    pub told_rewritten : (m : Model K) → whole.left_as r t' v' ≡ whole.rewritten A parsed m k bs t v → told A.number print r t' ≡ rewritten A parsed print (length v) m k bs t
+    told_rewritten m e = ap of_left e ∙ sym (rewritten_agrees m k bs t v)
+
+    pub told_both : (x y : Model K) → whole.left_as r t' v' ≡ whole.unless_refused (paired_up x y) t v (λ m. whole.rewritten A parsed m k bs t v)
+        → told A.number print r t' ≡ cond (nat_le (x.count * y.count) 4096) (rewritten A parsed print (length v) (pair_model x y) k bs t) (Err (large_pair (x.count * y.count)))
+    told_both x y e =
+        ap of_left e
+        ∙ sym (pair_agrees (nat_le (x.count * y.count) 4096) (pair_model x y) (large_pair (x.count * y.count)) t v (λ m. rewritten A parsed print (length v) m k bs t)
+        (λ m. whole.rewritten A parsed m k bs t v) (λ m. rewritten_agrees m k bs t v))
+
+    pub told_limited : (M : Model K) (o : Option ℕ) → whole.left_as r t' v' ≡ whole.unless_refused (limited M A o Ok) t v (λ m. whole.rewritten A parsed m k bs t v)
+        → told A.number print r t' ≡ limited M A o (λ m. rewritten A parsed print (length v) m k bs t)
+    told_limited M o e =
+        ap of_left e
+        ∙ sym (limited_agrees M o t v (λ m. rewritten A parsed print (length v) m k bs t) (λ m. whole.rewritten A parsed m k bs t v) (λ m. rewritten_agrees m k bs t v))
+
+  -- and of the lines of a body
+  pub told_body : (n w : ℕ) (t : List K) (v : List ℕ) (l : ℕ) (xs : List Item) (r : Result Counts Refusal) (t' : List K) (v' : List ℕ)
+      → whole.left_as r t' v' ≡ entire.body A parsed n w t v l xs → told A.number print r t' ≡ body A parsed print n w (length v) t l xs
+  told_body n w t v l xs r t' v' e = ap of_left e ∙ sym (body_agrees n w t v l xs)
 
 -- the same text and counts
 abbrev as_sheeted : Result entire.Sheeted Refusal → Result Sheeted Refusal

@@ -18,7 +18,6 @@ use Rattle.models.specs.Alphabet.{Alphabet}
 use Rattle.models.specs.Automaton.{Model}
 use Rattle.sheetlaw.specs.Step.{Contents, opening, close, answers, leaves, writes, pauses, leaves_gap}
 use Rattle.sheetlaw.specs.NextRow.{row_of}
-use Rattle.sheetlaw.specs.declared.Answer.{Answer}
 use Rattle.sheetlaw.specs.declared.Counts.{Counts}
 use Rattle.stations.specs.Stations.{bind}
 use Rattle.texts.specs.Texts.{reading}

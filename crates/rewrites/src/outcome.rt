@@ -6,8 +6,9 @@ ghost use Rattle.pages.specs.Pages.{over, Wrote};
 ghost use Rattle.rewrites.specs.Fits.{Roomy, alone, paired};
 ghost use Rattle.rewritelaw.specs.Laws.{GoodLaw, FirstLaw};
 ghost use Rattle.rewritelaw.specs.Traces.{left_as};
-ghost use Rattle.rewritelaw.specs.Outcomes.{body as body_of, told, outcome as whole, printed as printed_whole, written as whole_written};
-ghost use Rattle.rewrites.specs.Outcomes.{outcome, printed as printed_of, written as is_written};
+ghost use Rattle.rewritelaw.specs.Outcomes.{body as body_whole, outcome as whole, printed as printed_whole, written as whole_written};
+ghost use Rattle.rewrites.specs.Traces.{told};
+ghost use Rattle.rewrites.specs.Outcomes.{body as body_of, outcome, printed as printed_of, written as is_written};
 
 use crate::report::show;
 use crate::settings::rewrite_limited;
@@ -45,7 +46,8 @@ fn body<L: Printable>(
 ) -> Result<Counts, Refusal>
     requires alone { Roomy (alone L.row ⟦<Listed<'static, L> as Automaton>⟧ L.Letter) }
     requires paired { Roomy (paired L.row ⟦<Pair<Listed<'static, L>, Run<L>> as Automaton>⟧ L.Letter) }
-    ensures { left_as result text.new work.new ≡ body_of L.Letter.alphabet L.Printable.parsed (length records.old) (length words.old) text.old work.old (lines.old.number + 1) (items lines.old.rest.now) }
+    ensures told { told L.Letter.alphabet.number L.Printable.printed result text.new ≡ body_of L.Letter.alphabet L.Printable.parsed L.Printable.printed (length records.old) (length words.old) (length work.old) text.old (lines.old.number + 1) (items lines.old.rest.now) }
+    ensures left { left_as result text.new work.new ≡ body_whole L.Letter.alphabet L.Printable.parsed (length records.old) (length words.old) text.old work.old (lines.old.number + 1) (items lines.old.rest.now) }
 {
     let mut list = Builder::<L>::start(records, words);
     let preface = read(lines, &mut list)?;
@@ -71,10 +73,10 @@ fn print_body<L: Printable>(
 ) -> bool
     requires alone { Roomy (alone L.row ⟦<Listed<'static, L> as Automaton>⟧ L.Letter) }
     requires paired { Roomy (paired L.row ⟦<Pair<Listed<'static, L>, Run<L>> as Automaton>⟧ L.Letter) }
-    ensures page { Wrote page.old page.new (printed_whole (told L.Letter.alphabet L.Printable.printed (body_of L.Letter.alphabet L.Printable.parsed (length records.old) (length words.old) text.old work.old (lines.old.number + 1) (items lines.old.rest.now)).answer (body_of L.Letter.alphabet L.Printable.parsed (length records.old) (length words.old) text.old work.old (lines.old.number + 1) (items lines.old.rest.now)).table)) }
-    ensures written { result ≡ whole_written (told L.Letter.alphabet L.Printable.printed (body_of L.Letter.alphabet L.Printable.parsed (length records.old) (length words.old) text.old work.old (lines.old.number + 1) (items lines.old.rest.now)).answer (body_of L.Letter.alphabet L.Printable.parsed (length records.old) (length words.old) text.old work.old (lines.old.number + 1) (items lines.old.rest.now)).table) }
-    ensures text { text.new ≡ (body_of L.Letter.alphabet L.Printable.parsed (length records.old) (length words.old) text.old work.old (lines.old.number + 1) (items lines.old.rest.now)).table }
-    ensures work { work.new ≡ (body_of L.Letter.alphabet L.Printable.parsed (length records.old) (length words.old) text.old work.old (lines.old.number + 1) (items lines.old.rest.now)).work }
+    ensures page { Wrote page.old page.new (printed_of (body_of L.Letter.alphabet L.Printable.parsed L.Printable.printed (length records.old) (length words.old) (length work.old) text.old (lines.old.number + 1) (items lines.old.rest.now))) }
+    ensures written { result ≡ is_written (body_of L.Letter.alphabet L.Printable.parsed L.Printable.printed (length records.old) (length words.old) (length work.old) text.old (lines.old.number + 1) (items lines.old.rest.now)) }
+    ensures text { text.new ≡ (body_whole L.Letter.alphabet L.Printable.parsed (length records.old) (length words.old) text.old work.old (lines.old.number + 1) (items lines.old.rest.now)).table }
+    ensures work { work.new ≡ (body_whole L.Letter.alphabet L.Printable.parsed (length records.old) (length words.old) text.old work.old (lines.old.number + 1) (items lines.old.rest.now)).work }
 {
     let answer = body(lines, records, words, text, work);
     show(answer, text, page)
@@ -100,8 +102,8 @@ fn print_file(
     work: &mut [u16],
     page: &mut Page<'_>,
 ) -> bool
-    ensures page { Wrote page.old page.new (printed_whole (whole (length records.old) (length words.old) two.old trend.old seepage.old work.old input.now).answer) }
-    ensures written { result ≡ whole_written (whole (length records.old) (length words.old) two.old trend.old seepage.old work.old input.now).answer }
+    ensures page { Wrote page.old page.new (printed_of (outcome (length records.old) (length words.old) (length work.old) two.old trend.old seepage.old input.now)) }
+    ensures written { result ≡ is_written (outcome (length records.old) (length words.old) (length work.old) two.old trend.old seepage.old input.now) }
     ensures two { two.new ≡ (whole (length records.old) (length words.old) two.old trend.old seepage.old work.old input.now).two }
     ensures trend { trend.new ≡ (whole (length records.old) (length words.old) two.old trend.old seepage.old work.old input.now).trend }
     ensures seepage { seepage.new ≡ (whole (length records.old) (length words.old) two.old trend.old seepage.old work.old input.now).seepage }

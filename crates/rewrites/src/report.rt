@@ -1,7 +1,8 @@
 // What is printed of a rewritten trace.
 ghost use Rattle.std.specs.Prelude.{◌≡◌, map, take};
 ghost use Rattle.pages.specs.Pages.{Wrote};
-ghost use Rattle.rewritelaw.specs.Outcomes.{sheeted, told, counts_line, shown, printed as printed_of, written};
+ghost use Rattle.rewrites.specs.Traces.{sheeted, told};
+ghost use Rattle.rewrites.specs.Outcomes.{counts_line, shown, printed as printed_of, written};
 
 use files::Refusal;
 use letters::{Letter, Printable};
@@ -37,7 +38,7 @@ fn show_counts(counts: Counts, page: &mut Page<'_>)
 
 // Writes the text, which is the front of `table`, and the counts, each with a newline.
 fn show_sheet<L: Printable>(counts: Counts, table: &[L], page: &mut Page<'_>)
-    ensures { Wrote page.old page.new (shown (sheeted L.Letter.alphabet L.Printable.printed counts table.now)) }
+    ensures { Wrote page.old page.new (shown (sheeted L.Letter.alphabet.number L.Printable.printed counts table.now)) }
 {
     show_letters(front(table, counts.text), page);
     page.push(b'\n');
@@ -46,8 +47,8 @@ fn show_sheet<L: Printable>(counts: Counts, table: &[L], page: &mut Page<'_>)
 
 // Writes the text and the counts, or the refusal line, and answers whether it was a text.
 pub fn show<L: Printable>(answer: Result<Counts, Refusal>, table: &[L], page: &mut Page<'_>) -> bool
-    ensures page { Wrote page.old page.new (printed_of (told L.Letter.alphabet L.Printable.printed answer table.now)) }
-    ensures written { result ≡ written (told L.Letter.alphabet L.Printable.printed answer table.now) }
+    ensures page { Wrote page.old page.new (printed_of (told L.Letter.alphabet.number L.Printable.printed answer table.now)) }
+    ensures written { result ≡ written (told L.Letter.alphabet.number L.Printable.printed answer table.now) }
 {
     match answer {
         Ok(counts) => {

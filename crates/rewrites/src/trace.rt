@@ -1,8 +1,8 @@
 // A trace given to a sheet, byte by byte.
 ghost use Rattle.std.specs.Prelude.{◌≡◌, length};
 ghost use Rattle.sheets.specs.Views.{contents};
-ghost use Rattle.rewritelaw.specs.Traces.{refusal, fed as fed_whole, fed_as as fed_whole_as, fed_byte, fed_letter};
-ghost use Rattle.rewrites.specs.Traces.{fed, fed_as};
+ghost use Rattle.rewritelaw.specs.Traces.{fed as fed_whole, fed_as as fed_whole_as, fed_byte as byte_whole, fed_letter as letter_whole};
+ghost use Rattle.rewrites.specs.Traces.{refusal, fed, fed_as, fed_byte, fed_letter};
 
 use automata::Automaton;
 use faults::Fault;
@@ -33,7 +33,8 @@ fn feed_letter<S: Automaton>(
 ) -> Result<(), Fault>
 where
     S::Kind: Printable,
-    ensures fed { fed_whole_as result (contents sheet.new) text.new work.new ≡ fed_letter S.Kind.Letter.alphabet S.Kind.Printable.parsed (S.model sheet.old.automaton) sheet.old.k place read (contents sheet.old) text.old work.old }
+    ensures fed { fed_as result (contents sheet.new) text.new ≡ fed_letter S.Kind.Letter.alphabet S.Kind.Printable.parsed (S.model sheet.old.automaton) sheet.old.k (length work.old) place read (contents sheet.old) text.old }
+    ensures fed_whole { fed_whole_as result (contents sheet.new) text.new work.new ≡ letter_whole S.Kind.Letter.alphabet S.Kind.Printable.parsed (S.model sheet.old.automaton) sheet.old.k place read (contents sheet.old) text.old work.old }
     ensures keeps { (sheet.new.k ≡ sheet.old.k) × (sheet.new.automaton ≡ sheet.old.automaton) }
 {
     match read {
@@ -52,7 +53,8 @@ fn feed_byte<S: Automaton>(
 ) -> Result<(), Fault>
 where
     S::Kind: Printable,
-    ensures fed { fed_whole_as result (contents sheet.new) text.new work.new ≡ fed_byte S.Kind.Letter.alphabet S.Kind.Printable.parsed (S.model sheet.old.automaton) sheet.old.k place byte (contents sheet.old) text.old work.old }
+    ensures fed { fed_as result (contents sheet.new) text.new ≡ fed_byte S.Kind.Letter.alphabet S.Kind.Printable.parsed (S.model sheet.old.automaton) sheet.old.k (length work.old) place byte (contents sheet.old) text.old }
+    ensures fed_whole { fed_whole_as result (contents sheet.new) text.new work.new ≡ byte_whole S.Kind.Letter.alphabet S.Kind.Printable.parsed (S.model sheet.old.automaton) sheet.old.k place byte (contents sheet.old) text.old work.old }
     ensures keeps { (sheet.new.k ≡ sheet.old.k) × (sheet.new.automaton ≡ sheet.old.automaton) }
 {
     if byte == GAP {

@@ -1,4 +1,4 @@
-use Rattle.std.proofs.Common.{[], length, sym, ◌∙◌, rules}
+use Rattle.std.proofs.Common.{[], length, ◌∙◌, rules}
 use Rattle.rewrites.proofs.Agreeing.{same_printed, same_written}
 use Rattle.rewritelaw.proofs.Goods.{good}
 use Rattle.rewritelaw.proofs.Orders.{first}
@@ -13,9 +13,9 @@ returns c =
     let text = c.print_file-written.ensures.page.text [] c.args.out.now c.new-page.ensures.fresh in
     let same = c.print_file-written.ensures.page.page ∙ c.new-page.ensures.page in
     record {
-      out = rw printed (search rules);
-      length = rw printed (c.used.ensures ∙ text.1);
-      written = c.print_file-written.ensures.written ∙ sym written;
+      out = search rules;
+      length = c.used.ensures ∙ text.1;
+      written = c.print_file-written.ensures.written;
       whole = printed;
       whole_written = written;
       two = c.print_file-written.ensures.two;

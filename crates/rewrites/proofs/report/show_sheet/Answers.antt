@@ -1,6 +1,6 @@
 use Rattle.std.proofs.Common.{◌∷◌, map, refl, ap}
 use Rattle.pages.proofs.Writes.{wrote_then, wrote_is}
-use Rattle.rewritelaw.specs.Outcomes.{counts_line}
+use Rattle.rewrites.specs.Outcomes.{counts_line}
 use Rattle.rewrites.proofs.report.show_sheet.Goals as goal
 
 pub returns : goal.returns

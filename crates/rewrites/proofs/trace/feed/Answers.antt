@@ -18,7 +18,7 @@ loop-place-preserved g c =
     let s = contents c.feed_byte.new.sheet in
     let t = c.feed_byte.new.text in
     let v = c.feed_byte.new.work in
-    let more = fed-more A parsed m k bs i (contents c.loop-place.sheet) s c.loop-place.text t c.loop-place.work v c.feed_byte.result _ _ c.loop-place-test.true (ap g.S.Automaton.model now.2) now.1 c.feed_byte.ensures.fed in (
+    let more = fed-more A parsed m k bs i (contents c.loop-place.sheet) s c.loop-place.text t c.loop-place.work v c.feed_byte.result _ _ c.loop-place-test.true (ap g.S.Automaton.model now.2) now.1 c.feed_byte.ensures.fed_whole in (
       subst (λ r. go_on r s t v (fed A parsed m k (i + 1) (drop (i + 1) bs)) ≡ fed A parsed m k i (drop i bs) (contents c.loop-place.sheet) c.loop-place.text c.loop-place.work) c.in_ok-feed_byte.was more ∙ now.0,
       c.feed_byte.ensures.keeps.0 ∙ now.1,
       c.feed_byte.ensures.keeps.1 ∙ now.2,
@@ -38,7 +38,7 @@ returns-in_err-feed_byte g c =
     let v = c.feed_byte.new.work in
     let was = c.in_err-feed_byte.was in
     let p = err_from_is_err_and c.from_residual.result c.from_residual.ensures.1 in
-    let more = fed-more A parsed m k bs i (contents c.loop-place.sheet) s c.loop-place.text t c.loop-place.work v c.feed_byte.result _ _ c.loop-place-test.true (ap g.S.Automaton.model now.2) now.1 c.feed_byte.ensures.fed in
+    let more = fed-more A parsed m k bs i (contents c.loop-place.sheet) s c.loop-place.text t c.loop-place.work v c.feed_byte.result _ _ c.loop-place-test.true (ap g.S.Automaton.model now.2) now.1 c.feed_byte.ensures.fed_whole in
     let whole : fed_as c.from_residual.result s t v ≡ fed A parsed m k 0 bs (contents c.args.sheet.now) c.args.text.now c.args.work.now =
     ap (λ r. fed_as r s t v) (p.1 ∙ ap Err p.2)
     ∙ subst (λ r. go_on r s t v (fed A parsed m k (i + 1) (drop (i + 1) bs)) ≡ fed A parsed m k i (drop i bs) (contents c.loop-place.sheet) c.loop-place.text c.loop-place.work) was more
