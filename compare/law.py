@@ -6,7 +6,7 @@ string has windows in order if they occur in it at strictly rising places. What 
 found by going over all strings, two of them taken for one only if they end alike and have as many windows matched.
 
     python3 compare/law.py --seed 1 --count 1500            answers of second.py, letter by letter, any text table
-    python3 compare/law.py --seed 1 --count 300 --proved    texts printed by the proved programs in target/bin
+    python3 compare/law.py --seed 1 --count 300 --proved    texts printed by the proved programs
 """
 
 from __future__ import annotations
@@ -18,14 +18,13 @@ import sys
 from collections import Counter
 from collections.abc import Iterator, Sequence
 from dataclasses import dataclass, field
-from pathlib import Path
 
 sys.dont_write_bytecode = True
 
 import generate  # noqa: E402
+import programs  # noqa: E402
 import second  # noqa: E402
 
-PROVED = Path(__file__).resolve().parent.parent / "target" / "bin"
 GAP = ord("?")
 ALL_STRINGS = 5_000
 """Up to this many strings are enumerated one by one."""
@@ -322,7 +321,7 @@ def file_of(reader: Reader, k: int | None, content: bytes) -> bytes:
 
 
 def printed_by(program: str, data: bytes) -> bytes:
-    return subprocess.run([PROVED / program], input=data, stdout=subprocess.PIPE, timeout=60).stdout
+    return subprocess.run([programs.executable(program)], input=data, stdout=subprocess.PIPE, timeout=60).stdout
 
 
 def printed_fault(printed: bytes) -> second.Refused | None:
@@ -458,10 +457,11 @@ def main(arguments: Sequence[str]) -> int:
     parser = argparse.ArgumentParser(description="Holds small random cases against the law by search over all strings.")
     parser.add_argument("--seed", type=int, default=1)
     parser.add_argument("--count", type=int, default=1500)
-    parser.add_argument("--proved", action="store_true", help="judge what the programs in target/bin print")
+    parser.add_argument("--proved", action="store_true", help="judge what the proved programs print")
     options = parser.parse_args(arguments)
-    if options.proved and not all((PROVED / program).is_file() for program in ("rewrite", "join")):
-        print("law.py: rewrite or join is not in target/bin. First rt check rewrite; rt check join", file=sys.stderr)
+    missing = programs.missing(("rewrite", "join")) if options.proved else []
+    if missing:
+        print(f"law.py: not built yet; first {'; '.join(map(programs.building, missing))}", file=sys.stderr)
         return 2
     rng = random.Random(options.seed)
     seen: Counter[str] = Counter()

@@ -5,7 +5,8 @@ use joinings::{Desk, Printed, join_file};
 use letters::{Flow, Seepage, Trend, Two};
 use lists::Record;
 use std::io;
-use std::io::{ErrorKind, Read, Write};
+use std::io::{Read, Write};
+use std::process::ExitCode;
 
 // One byte more than a file may have, so that a longer one is seen to be longer.
 const INPUT: u64 = 60001;
@@ -64,10 +65,10 @@ fn work(rt: &HostRuntime) -> io::Result<bool> {
     Ok(joined)
 }
 
-fn main(rt: HostRuntime) -> io::Result<()> {
+fn main(rt: HostRuntime) -> io::Result<ExitCode> {
     if work(&rt)? {
-        Ok(())
+        Ok(ExitCode::SUCCESS)
     } else {
-        Err(io::Error::from(ErrorKind::InvalidData))
+        Ok(ExitCode::FAILURE)
     }
 }

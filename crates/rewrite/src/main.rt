@@ -3,7 +3,8 @@
 
 use rewrites::{Printed, rewrite_file};
 use std::io;
-use std::io::{ErrorKind, Read, Write};
+use std::io::{Read, Write};
+use std::process::ExitCode;
 use tables::{Letters, Listing, WORK};
 
 // One byte more than a file may have, so that a longer one is seen to be longer.
@@ -36,10 +37,10 @@ fn work(rt: &HostRuntime) -> io::Result<bool> {
     Ok(written)
 }
 
-fn main(rt: HostRuntime) -> io::Result<()> {
+fn main(rt: HostRuntime) -> io::Result<ExitCode> {
     if work(&rt)? {
-        Ok(())
+        Ok(ExitCode::SUCCESS)
     } else {
-        Err(io::Error::from(ErrorKind::InvalidData))
+        Ok(ExitCode::FAILURE)
     }
 }

@@ -2,7 +2,8 @@
 #![tactic(auto)]
 
 use std::io;
-use std::io::{ErrorKind, Read, Write};
+use std::io::{Read, Write};
+use std::process::ExitCode;
 use stepping::{Printed, steps_file};
 use tables::{Letters, Listing, WORK};
 
@@ -36,10 +37,10 @@ fn work(rt: &HostRuntime) -> io::Result<bool> {
     Ok(complete)
 }
 
-fn main(rt: HostRuntime) -> io::Result<()> {
+fn main(rt: HostRuntime) -> io::Result<ExitCode> {
     if work(&rt)? {
-        Ok(())
+        Ok(ExitCode::SUCCESS)
     } else {
-        Err(io::Error::from(ErrorKind::InvalidData))
+        Ok(ExitCode::FAILURE)
     }
 }
