@@ -41,7 +41,7 @@ fn join_body<'a, L: Printable>(
     text: &'a mut [L],
     work: &mut [u16],
 ) -> Result<Report<'a, L>, Refusal>
-    ensures { reported L.Letter.alphabet L.Printable.printed result ≡ joined_body kind L.Letter.alphabet L.Printable.printed L.Printable.parsed (length records.old) (length words.old) (record { letters = length letters.entry.now; text = length text.old }) (length work.old) (lines.old.number + 1) (items lines.old.rest.now) }
+    ensures { reported L.Letter.alphabet L.Printable.printed result ≡ joined_body kind L.Letter.alphabet L.Printable.printed L.Printable.parsed (length records.old) (length words.old) (record { letters = length letters.old; text = length text.old }) (length work.old) (lines.old.number + 1) (items lines.old.rest.now) }
 {
     let mut list = Builder::<L>::start(records, words);
     let preface = read(lines, &mut list)?;
@@ -72,8 +72,8 @@ fn join_kind<L: Printable>(
     work: &mut [u16],
     page: &mut Page<'_>,
 ) -> bool
-    ensures page { Wrote page.old page.new (printed (joined_body kind L.Letter.alphabet L.Printable.printed L.Printable.parsed (length records.old) (length words.old) (record { letters = length letters.entry.now; text = length text.old }) (length work.old) (lines.old.number + 1) (items lines.old.rest.now))) }
-    ensures joined { result ≡ is_ok (joined_body kind L.Letter.alphabet L.Printable.printed L.Printable.parsed (length records.old) (length words.old) (record { letters = length letters.entry.now; text = length text.old }) (length work.old) (lines.old.number + 1) (items lines.old.rest.now)) }
+    ensures page { Wrote page.old page.new (printed (joined_body kind L.Letter.alphabet L.Printable.printed L.Printable.parsed (length records.old) (length words.old) (record { letters = length letters.old; text = length text.old }) (length work.old) (lines.old.number + 1) (items lines.old.rest.now))) }
+    ensures joined { result ≡ is_ok (joined_body kind L.Letter.alphabet L.Printable.printed L.Printable.parsed (length records.old) (length words.old) (record { letters = length letters.old; text = length text.old }) (length work.old) (lines.old.number + 1) (items lines.old.rest.now)) }
 {
     match join_body(kind, lines, records, words, letters, text, work) {
         Ok(report) => {
@@ -101,8 +101,8 @@ fn join_lines(
     work: &mut [u16],
     page: &mut Page<'_>,
 ) -> bool
-    ensures page { Wrote page.old page.new (printed (outcome_of (record { records = length records.entry.now; words = length words.old; two = record { letters = length two_letters.old; text = length two_text.old }; trend = record { letters = length trend_letters.old; text = length trend_text.old }; seepage = record { letters = length seepage_letters.old; text = length seepage_text.old }; work = length work.old }) input.now)) }
-    ensures joined { result ≡ is_ok (outcome_of (record { records = length records.entry.now; words = length words.old; two = record { letters = length two_letters.old; text = length two_text.old }; trend = record { letters = length trend_letters.old; text = length trend_text.old }; seepage = record { letters = length seepage_letters.old; text = length seepage_text.old }; work = length work.old }) input.now) }
+    ensures page { Wrote page.old page.new (printed (outcome_of (record { records = length records.old; words = length words.old; two = record { letters = length two_letters.old; text = length two_text.old }; trend = record { letters = length trend_letters.old; text = length trend_text.old }; seepage = record { letters = length seepage_letters.old; text = length seepage_text.old }; work = length work.old }) input.now)) }
+    ensures joined { result ≡ is_ok (outcome_of (record { records = length records.old; words = length words.old; two = record { letters = length two_letters.old; text = length two_text.old }; trend = record { letters = length trend_letters.old; text = length trend_text.old }; seepage = record { letters = length seepage_letters.old; text = length seepage_text.old }; work = length work.old }) input.now) }
 {
     if input.len() > INPUT {
         early().show(page);
@@ -160,9 +160,9 @@ pub fn join_file(
     work: &mut [u16],
     out: &mut [u8],
 ) -> Printed
-    ensures out { out.new ≡ over (printed (outcome_of (record { records = length records.entry.now; words = length words.old; two = room two.entry; trend = room trend.entry; seepage = room seepage.entry; work = length work.old }) input.now)) out.old }
-    ensures length { result.length ≡ min (length (printed (outcome_of (record { records = length records.entry.now; words = length words.old; two = room two.entry; trend = room trend.entry; seepage = room seepage.entry; work = length work.old }) input.now))) (length out.old) }
-    ensures joined { result.joined ≡ is_ok (outcome_of (record { records = length records.entry.now; words = length words.old; two = room two.entry; trend = room trend.entry; seepage = room seepage.entry; work = length work.old }) input.now) }
+    ensures out { out.new ≡ over (printed (outcome_of (record { records = length records.old; words = length words.old; two = room two.entry; trend = room trend.entry; seepage = room seepage.entry; work = length work.old }) input.now)) out.old }
+    ensures length { result.length ≡ min (length (printed (outcome_of (record { records = length records.old; words = length words.old; two = room two.entry; trend = room trend.entry; seepage = room seepage.entry; work = length work.old }) input.now))) (length out.old) }
+    ensures joined { result.joined ≡ is_ok (outcome_of (record { records = length records.old; words = length words.old; two = room two.entry; trend = room trend.entry; seepage = room seepage.entry; work = length work.old }) input.now) }
 {
     let Desk {
         letters: two_letters,

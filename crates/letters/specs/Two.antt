@@ -1,4 +1,4 @@
--- The two_letter kind: `a` is 0 and `b` is 1. Assumes nothing.
+-- The two-letter kind: `a` is 0 and `b` is 1. Assumes nothing.
 use Rattle.std.specs.Prelude.{◌≡◌, ℕ, zero, suc, ◌<◌, ◌≤◌, false, cond, Some, None, Option, ◌==◌, nat_eq, refl}
 use Rattle.std.proofs.Common.{arith, lit<, lit≤}
 use Rattle.std.proofs.lemmas.Bool.{ne_eqb}

@@ -1,6 +1,6 @@
 -- What the computed words of Patterns say, as relations between strings. Assumes nothing.
 --
---   State ps w      w is the empty word or a proper prefix of a pattern
+--   State ps w     w is the empty word or a proper prefix of a pattern
 --   StatesRight    the states are exactly these words, each once
 --   HitRight       hit says whether a pattern is a suffix
 --   LongestRight   longest gives the longest suffix that is a state

@@ -6,7 +6,7 @@
 --   Kept used size stop goes kept   there are patterns whose table it is, and whose memory is kept
 --   after ps w c   from the state w, the letter c stops if a pattern is a suffix of wc, else it leads to the longest suffix of wc that is a state
 --   Means A m ps   m is the automaton of the patterns ps over the letters of A
-use Rattle.std.specs.Prelude.{◌≡◌, ℕ, ◌<◌, ◌≤◌, Bool, true, cond, List, [], ◌∷◌, ◌++◌, length, get_or, Some, None, Option, nat_lt, slice_index_or}
+use Rattle.std.specs.Prelude.{◌≡◌, ℕ, ◌<◌, ◌≤◌, Bool, true, cond, List, [], ◌∷◌, ◌++◌, length, Some, None, Option, nat_lt, slice_index_or}
 use Rattle.std.specs.List.{ContainsAt as Has}
 use Rattle.models.specs.Alphabet.{Alphabet}
 use Rattle.models.specs.Automaton.{Next, Model, Pass}
@@ -43,7 +43,7 @@ after ps w c = cond (hit ps (w ++ (c ∷ []))) None (Some (longest (states ps) (
 pub record Means {K : Type 0} (A : Alphabet K) (m : Model K) (ps : List (List K)) : Type 0 where
   -- its states are the distinct proper prefixes of the patterns with the empty string, where it starts
   pub count : m.count ≡ length (states (coded A ps))
-  pub starts : get_or (states (coded A ps)) m.start [] ≡ []
+  pub starts : slice_index_or (states (coded A ps)) m.start [] ≡ []
   pub steps : (q : ℕ) (x : K) → q < m.count → m.next q x ≡ after (coded A ps) (slice_index_or (states (coded A ps)) q []) (A.number x)
   pub kept : m.memory ≡ memory (coded A ps)
   -- it stops a string exactly when a pattern occurs in it

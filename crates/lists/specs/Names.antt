@@ -8,7 +8,7 @@
 --   Under n ns used   the letters of the records are below n
 --   Reached ..      what one letter more leaves
 --   Entered ..      what the prefixes of a word leave
-use Rattle.std.specs.Prelude.{◌≡◌, ℕ, ◌+◌, ◌<◌, ◌≤◌, List, [], ◌∷◌, ◌++◌, length, get_or, take, bit_or, slice_index, slice_index_or}
+use Rattle.std.specs.Prelude.{◌≡◌, ℕ, ◌+◌, ◌<◌, ◌≤◌, List, [], ◌∷◌, ◌++◌, length, take, bit_or, slice_index, slice_index_or}
 use Rattle.listlaw.specs.Patterns.{Word, gather, fronts, Places, with}
 use Rattle.lists.specs.declared.record.Record.{Record}
 
@@ -57,7 +57,7 @@ Fresh old ns used more = ((i : ℕ) → i < used → rec ns i ≡ rec old i) × 
 pub record Reached (old ns : List Record) (used under a at more : ℕ) : Type 0 where
   pub trie : Trie ns more
   pub inside : at < more
-  pub word : get_or (names ns more) at [] ≡ slice_index_or (names old used) under [] ++ (a ∷ [])
+  pub word : slice_index_or (names ns more) at [] ≡ slice_index_or (names old used) under [] ++ (a ∷ [])
   pub states : names ns more ≡ with (names old used) (slice_index_or (names old used) under [] ++ (a ∷ []))
   pub letters : (n : ℕ) → Under n old used → a < n → Under n ns more
   pub fresh : Fresh old ns used more
@@ -67,7 +67,7 @@ pub record Reached (old ns : List Record) (used under a at more : ℕ) : Type 0 
 pub record Entered (old ns : List Record) (used : ℕ) (w : Word) (k at more : ℕ) : Type 0 where
   pub trie : Trie ns more
   pub inside : at < more
-  pub word : get_or (names ns more) at [] ≡ take k w
+  pub word : slice_index_or (names ns more) at [] ≡ take k w
   pub states : names ns more ≡ gather (names old used) (fronts (take (k + 1) w))
   pub letters : (n : ℕ) → Under n old used → ((i : ℕ) → i < length w → slice_index w i < n) → Under n ns more
   pub fresh : Fresh old ns used more

@@ -1,6 +1,6 @@
 -- Two automata side by side. Assumes nothing.
 --
---   pair_model u v   the pair of the automata u and v
+--   pair_model u v  the pair of the automata u and v
 --   OnlyBoth m u v  the automaton m lets pass exactly what both u and v let pass
 --
 -- An automaton has at most 4,096 states. A pair whose product is larger is never made; so that every pair of two

@@ -1,8 +1,8 @@
 -- The run automaton: what it keeps, and which strings it lets pass. Assumes nothing.
 --
---   run_next r c     the steps over letters given by number, with run limit r and c letters
---   run_model A r    the automaton over the letters of the alphabet A
---   Short r xs       no letter stands more than r times in a row in xs
+--   run_next r c    the steps over letters given by number, with run limit r and c letters
+--   run_model A r   the automaton over the letters of the alphabet A
+--   Short r xs      no letter stands more than r times in a row in xs
 --   OnlyShort m r   the automaton m lets pass exactly the strings that are Short r
 use Rattle.std.specs.Prelude.{ℕ, ◌+◌, ◌*◌, cond, ◌&&◌, List, replicate, Some, None, ◌==◌, nat_le, nat_lt}
 use Rattle.models.specs.Alphabet.{Alphabet}

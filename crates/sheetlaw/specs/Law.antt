@@ -8,12 +8,12 @@
 --   text h t               the text: as much of the table's front as the kept answers appended together
 --   Shortest P s           s is one of the strings with P, and none of them has fewer letters
 --   Refused n r            the answer r is a refusal with the number n
---   EndsWindow k h x w    the next letter x ends the window w
+--   EndsWindow k h x w     the next letter x ends the window w
 --   Latest ws o            o is the last of the kept windows ws, or None where there is none
 --   Refusals m ws w n r    r refuses a letter that ends the window w, after the kept windows ws, exactly as it must on a
 --                          text table of n letters
 --   Followed .. h s t      what holds after the calls h
---   SheetLaw ..           it holds after every list of calls
+--   SheetLaw ..            it holds after every list of calls
 use Rattle.std.specs.Prelude.{◌≡◌, ℕ, ◌+◌, ◌-◌, ◌*◌, ◌<◌, ◌≤◌, ◌↔◌, List, [], ◌∷◌, ◌++◌, length, take, drop, Some, None, Ok, Err, Option, Result}
 use Rattle.faults.specs.declared.Fault.{Fault}
 use Rattle.models.specs.Automaton.{Model, Lawful, Pass, last}

@@ -1,7 +1,7 @@
 -- The row of letters that leads from the last kept window to the next one. Assumes nothing.
 --
 --   row_of A m u w   what the bridge from the window u to the window w appends, if there is one
---   EverySheet A    the law of a sheet, for every automaton that keeps the laws, every text table and every list of calls
+--   EverySheet A     the law of a sheet, for every automaton that keeps the laws, every text table and every list of calls
 use Rattle.std.specs.Prelude.{◌≡◌, ℕ, List, Some, None, Ok, Option}
 use Rattle.models.specs.Alphabet.{Alphabet}
 use Rattle.models.specs.Automaton.{Model, Lawful}

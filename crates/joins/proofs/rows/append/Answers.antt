@@ -1,11 +1,11 @@
-use Rattle.std.proofs.Common.{◌≡◌, ◌+◌, ◌-◌, length, drop, Ok, Err, sym, ap, ◌∙◌, subst, arith}
+use Rattle.std.proofs.Common.{◌≡◌, ◌+◌, ◌-◌, length, drop, Ok, Err, sym, ap, ◌∙◌, subst, arith, rules}
 use Rattle.std.proofs.lemmas.List.{length-drop, length-take-le}
 use Rattle.joinlaw.specs.Bridges.{row}
 use Rattle.joins.specs.Queue.{by}
 use Rattle.joins.specs.Ways.{told, Fit}
 use Rattle.joins.specs.Answers.{appended, appended_text}
 use Rattle.joins.proofs.Puts.{put_fits, put_short, put_text_fits, put_text_short, mid_is}
-use Rattle.joins.proofs.Writings.{added-row, filled-told, overlap-told}
+use Rattle.joins.proofs.Writings.{added-row, joined-told}
 use Rattle.joins.proofs.rows.append.Goals as goal
 
 pub returns-then-end-text : goal.returns-then-end-text
@@ -67,8 +67,7 @@ returns g c =
     let fits = c.if-end-text.false in
     record {
       answer =
-          ap (λ i. Ok (record { length = end; overlap = i; filled = c.filled.result })) (c.overlap.ensures ∙ overlap-told A p l 0 v way)
-          ∙ ap (λ i. Ok (record { length = end; overlap = b.overlap; filled = i })) (c.filled.ensures ∙ filled-told A p l _ v way found.1)
+          joined-told A p l _ v way found.1 end _ _ (search rules) (search rules)
           ∙ sym (ap (λ o. appended o v at (length text)) found.0 ∙ put_fits b v at end is (length text) fits);
       text =
           mid_is at _ end text c.write.new.out (row b v) c.write.ensures (omega arith) (omega arith)
