@@ -13,10 +13,10 @@ use mir.Syntax.{static}
 use prog.Memory.{size}
 use Rattle.automata.specs.declared.Automaton
 use Rattle.letters.specs.declared.kind.Letter
-use Rattle.lists.specs.contracts.listed.Listed.{the_row as listed-row}
+use Rattle.lists.specs.contracts.listed.Listed.{the_row as listed_row}
 use Rattle.pairs.specs.contracts.Pair.{the_row as pair_row}
 use Rattle.runs.specs.contracts.Run.{the_row as run_row}
-use Rattle.sheets.specs.contracts.sheet.Sheet.{the_row as sheet-row}
+use Rattle.sheets.specs.contracts.sheet.Sheet.{the_row as sheet_row}
 
 abbrev pub Roomy : RattleType → Type 0
 Roomy R = size (layout R) < 2 ^ 63
@@ -25,8 +25,8 @@ Roomy R = size (layout R) < 2 ^ 63
 abbrev lifetime : NamedLft
 lifetime = record { mir = static; lft = [] }
 
-abbrev pub alone : (T : RattleType) → Automaton.Ghosts (listed-row lifetime T).Denot T.Denot → Letter.Ghosts T.Denot → RattleType
-alone T v g = sheet-row (listed-row lifetime T) T v g
+abbrev pub alone : (T : RattleType) → Automaton.Ghosts (listed_row lifetime T).Denot T.Denot → Letter.Ghosts T.Denot → RattleType
+alone T v g = sheet_row (listed_row lifetime T) T v g
 
-abbrev pub paired : (T : RattleType) → Automaton.Ghosts (pair_row (listed-row lifetime T) (run_row T)).Denot T.Denot → Letter.Ghosts T.Denot → RattleType
-paired T v g = sheet-row (pair_row (listed-row lifetime T) (run_row T)) T v g
+abbrev pub paired : (T : RattleType) → Automaton.Ghosts (pair_row (listed_row lifetime T) (run_row T)).Denot T.Denot → Letter.Ghosts T.Denot → RattleType
+paired T v g = sheet_row (pair_row (listed_row lifetime T) (run_row T)) T v g

@@ -4,7 +4,7 @@ ghost use Rattle.faults.specs.Causes.{large_pair};
 ghost use Rattle.pairlaw.specs.Pairs.{pair_model};
 ghost use Rattle.pairs.specs.contracts.Pair.{the_row as pair_row};
 ghost use Rattle.runs.specs.contracts.Run.{the_row as run_row};
-ghost use Rattle.sheets.specs.contracts.sheet.Sheet.{the_row as sheet-row};
+ghost use Rattle.sheets.specs.contracts.sheet.Sheet.{the_row as sheet_row};
 ghost use Rattle.listings.specs.Listings.{limited};
 ghost use Rattle.rewrites.specs.Fits.{Roomy};
 ghost use Rattle.rewrites.specs.Traces.{rewritten, told};
@@ -30,7 +30,7 @@ pub fn rewrite<S: Automaton + Drop>(
 ) -> Result<Counts, Fault>
 where
     S::Kind: Printable,
-    requires { Roomy (sheet-row S.row S.Kind.row S.Automaton S.Kind.Letter) }
+    requires { Roomy (sheet_row S.row S.Kind.row S.Automaton S.Kind.Letter) }
     ensures told { told S.Kind.Letter.alphabet.number S.Kind.Printable.printed result text.new ≡ rewritten S.Kind.Letter.alphabet S.Kind.Printable.parsed S.Kind.Printable.printed (length work.old) (S.model automaton) k trace.now text.old }
     ensures left { left_as result text.new work.new ≡ rewritten_whole S.Kind.Letter.alphabet S.Kind.Printable.parsed (S.model automaton) k trace.now text.old work.old }
 {
@@ -50,7 +50,7 @@ fn rewrite_both<P: Automaton + Drop, Q: Automaton<Kind = P::Kind> + Drop>(
 ) -> Result<Counts, Fault>
 where
     P::Kind: Printable,
-    requires { Roomy (sheet-row (pair_row P.row Q.row) P.Kind.row ⟦<Pair<P, Q> as Automaton>⟧ P.Kind.Letter) }
+    requires { Roomy (sheet_row (pair_row P.row Q.row) P.Kind.row ⟦<Pair<P, Q> as Automaton>⟧ P.Kind.Letter) }
     ensures told { told P.Kind.Letter.alphabet.number P.Kind.Printable.printed result text.new ≡ (if nat_le ((P.Automaton.model left).count * (Q.Automaton.model right).count) 4096 then rewritten P.Kind.Letter.alphabet P.Kind.Printable.parsed P.Kind.Printable.printed (length work.old) (pair_model (P.Automaton.model left) (Q.Automaton.model right)) k trace.now text.old else Err (large_pair ((P.Automaton.model left).count * (Q.Automaton.model right).count))) }
     ensures left { left_as result text.new work.new ≡ unless_refused (paired_up (P.Automaton.model left) (Q.Automaton.model right)) text.old work.old (λ m. rewritten_whole P.Kind.Letter.alphabet P.Kind.Printable.parsed m k trace.now text.old work.old) }
 {
@@ -69,8 +69,8 @@ pub fn rewrite_limited<P: Automaton + Drop>(
 ) -> Result<Counts, Fault>
 where
     P::Kind: Printable,
-    requires alone { Roomy (sheet-row P.row P.Kind.row P.Automaton P.Kind.Letter) }
-    requires paired { Roomy (sheet-row (pair_row P.row (run_row P.Kind.row)) P.Kind.row ⟦<Pair<P, Run<P::Kind>> as Automaton>⟧ P.Kind.Letter) }
+    requires alone { Roomy (sheet_row P.row P.Kind.row P.Automaton P.Kind.Letter) }
+    requires paired { Roomy (sheet_row (pair_row P.row (run_row P.Kind.row)) P.Kind.row ⟦<Pair<P, Run<P::Kind>> as Automaton>⟧ P.Kind.Letter) }
     ensures told { told P.Kind.Letter.alphabet.number P.Kind.Printable.printed result text.new ≡ limited (P.model automaton) P.Kind.Letter.alphabet limit (λ m. rewritten P.Kind.Letter.alphabet P.Kind.Printable.parsed P.Kind.Printable.printed (length work.old) m k trace.now text.old) }
     ensures left { left_as result text.new work.new ≡ unless_refused (limited (P.model automaton) P.Kind.Letter.alphabet limit Ok) text.old work.old (λ m. rewritten_whole P.Kind.Letter.alphabet P.Kind.Printable.parsed m k trace.now text.old work.old) }
 {

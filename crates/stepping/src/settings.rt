@@ -7,7 +7,7 @@ ghost use Rattle.pages.specs.Pages.{Wrote};
 ghost use Rattle.pairlaw.specs.Pairs.{pair_model};
 ghost use Rattle.pairs.specs.contracts.Pair.{the_row as pair_row};
 ghost use Rattle.runs.specs.contracts.Run.{the_row as run_row};
-ghost use Rattle.sheets.specs.contracts.sheet.Sheet.{the_row as sheet-row};
+ghost use Rattle.sheets.specs.contracts.sheet.Sheet.{the_row as sheet_row};
 ghost use Rattle.texts.specs.Texts.{reading};
 ghost use Rattle.listings.specs.Listings.{limited};
 ghost use Rattle.rewrites.specs.Fits.{Roomy};
@@ -46,7 +46,7 @@ fn admit<S: Automaton + Drop>(
 ) -> Result<Sheet<S>, Refusal>
 where
     S::Kind: Printable,
-    requires { Roomy (sheet-row S.row S.Kind.row S.Automaton S.Kind.Letter) }
+    requires { Roomy (sheet_row S.row S.Kind.row S.Automaton S.Kind.Letter) }
     ensures judged { verdict result ≡ admitted (S.model automaton) k (reading S.Kind.Letter.alphabet S.Kind.Printable.parsed) trace.now lines.old.number (items lines.old.rest.now) }
     ensures opened { IfOk result (Fresh S.Kind.Letter.alphabet S.model automaton k) }
 {
@@ -69,7 +69,7 @@ fn step_under<S: Automaton + Drop>(
 ) -> bool
 where
     S::Kind: Printable,
-    requires { Roomy (sheet-row S.row S.Kind.row S.Automaton S.Kind.Letter) }
+    requires { Roomy (sheet_row S.row S.Kind.row S.Automaton S.Kind.Letter) }
     ensures { Told S.Kind.Letter.alphabet S.Kind.Printable.printed page.old page.new text.old text.new work.old work.new result (concluded heading.kind heading.patterns heading.limit lines.old.number (items lines.old.rest.now) (steps S.Kind.Letter.alphabet text.old work.old (S.model automaton) heading.window (reading S.Kind.Letter.alphabet S.Kind.Printable.parsed) trace.now)) }
 {
     let states = automaton.states() as usize;
@@ -99,7 +99,7 @@ fn step_both<P: Automaton + Drop, Q: Automaton<Kind = P::Kind> + Drop>(
 ) -> bool
 where
     P::Kind: Printable,
-    requires { Roomy (sheet-row (pair_row P.row Q.row) P.Kind.row ⟦<Pair<P, Q> as Automaton>⟧ P.Kind.Letter) }
+    requires { Roomy (sheet_row (pair_row P.row Q.row) P.Kind.row ⟦<Pair<P, Q> as Automaton>⟧ P.Kind.Letter) }
     ensures { Told P.Kind.Letter.alphabet P.Kind.Printable.printed page.old page.new text.old text.new work.old work.new result (concluded heading.kind heading.patterns heading.limit lines.old.number (items lines.old.rest.now) (if nat_le ((P.Automaton.model left).count * (Q.Automaton.model right).count) 4096 then steps P.Kind.Letter.alphabet text.old work.old (pair_model (P.Automaton.model left) (Q.Automaton.model right)) heading.window (reading P.Kind.Letter.alphabet P.Kind.Printable.parsed) trace.now else Err (large_pair ((P.Automaton.model left).count * (Q.Automaton.model right).count)))) }
 {
     match Pair::new(left, right) {
@@ -126,8 +126,8 @@ pub(crate) fn step_limited<P: Automaton + Drop>(
 ) -> bool
 where
     P::Kind: Printable,
-    requires alone { Roomy (sheet-row P.row P.Kind.row P.Automaton P.Kind.Letter) }
-    requires paired { Roomy (sheet-row (pair_row P.row (run_row P.Kind.row)) P.Kind.row ⟦<Pair<P, Run<P::Kind>> as Automaton>⟧ P.Kind.Letter) }
+    requires alone { Roomy (sheet_row P.row P.Kind.row P.Automaton P.Kind.Letter) }
+    requires paired { Roomy (sheet_row (pair_row P.row (run_row P.Kind.row)) P.Kind.row ⟦<Pair<P, Run<P::Kind>> as Automaton>⟧ P.Kind.Letter) }
     ensures { Told P.Kind.Letter.alphabet P.Kind.Printable.printed page.old page.new text.old text.new work.old work.new result (concluded heading.kind heading.patterns heading.limit lines.old.number (items lines.old.rest.now) (limited (P.model automaton) P.Kind.Letter.alphabet heading.limit (λ m. steps P.Kind.Letter.alphabet text.old work.old m heading.window (reading P.Kind.Letter.alphabet P.Kind.Printable.parsed) trace.now))) }
 {
     match heading.limit {
