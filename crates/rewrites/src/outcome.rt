@@ -1,4 +1,6 @@
 // What a station file comes to when it is rewritten, from its bytes to what is printed.
+//
+// Two definitions of it stand in the clauses and agree: one of what is printed, and one that tells of the tables too.
 ghost use Rattle.std.specs.Prelude.{◌≡◌, ◌+◌, min, false, length};
 ghost use Rattle.files.specs.Lines.{items};
 ghost use Rattle.files.specs.Refusals.{refusal_line};

@@ -1,4 +1,6 @@
 // The automaton that a file's settings make, and its trace rewritten under it.
+//
+// `told` is what the answer and the text come to; `left` tells of the answer and of what both tables hold then.
 ghost use Rattle.std.specs.Prelude.{◌≡◌, ◌*◌, if◌then◌else◌, length, Ok, Err, nat_le};
 ghost use Rattle.faults.specs.Causes.{large_pair};
 ghost use Rattle.pairlaw.specs.Pairs.{pair_model};
