@@ -1,8 +1,8 @@
 // Automata: numbered states and the steps between them, over a kind of letters; the walk and the check over any of them.
 #![tactic(auto)]
 
-ghost use Rattle.std.specs.Prelude.{◌≡◌};
-ghost use Rattle.models.specs.Automaton.{Model, Lawful, walk as walk_of, stopped};
+ghost use Rattle.std.specs.Prelude.{◌≡◌, ℕ, Option};
+ghost use Rattle.models.specs.Automaton.{Next, Model, Lawful, walk as walk_of, stops, stopped};
 
 use letters::Letter;
 
@@ -42,16 +42,32 @@ pub fn walk<S: Automaton>(automaton: &S, from: u16, text: &[S::Kind]) -> Option<
     Some(state)
 }
 
-// The place of the letter at which `text` is stopped, or None where it passes.
-pub fn check<S: Automaton>(automaton: &S, text: &[S::Kind]) -> Option<usize>
-    ensures { result ≡ stopped (S.model automaton.now) text.now }
+// The place of the item at which a walk by `step` from the state `from` is stopped, or None.
+pub fn stop_place<T: Copy, F: Fn(u16, T) -> Option<u16>>(
+    step: F,
+    from: u16,
+    items: &[T],
+) -> Option<usize>
+    requires { F.IsAlwaysCallable step }
+    ensures { (next : Next T) → ((q : ℕ) (x : T) (o : Option ℕ) → F.post step q x o → o ≡ next q x) → result ≡ stops next from items.now }
 {
-    let mut state = automaton.first();
-    for (i, letter) in text.iter().enumerate() {
-        match automaton.step(state, *letter) {
-            Some(after) => state = after,
+    let mut at = from;
+    for (i, item) in items.iter().enumerate() {
+        match step(at, *item) {
+            Some(after) => at = after,
             None => return Some(i),
         }
     }
     None
+}
+
+// The place of the letter at which `text` is stopped, or None where it passes.
+pub fn check<S: Automaton>(automaton: &S, text: &[S::Kind]) -> Option<usize>
+    ensures { result ≡ stopped (S.model automaton.now) text.now }
+{
+    stop_place(
+        |state, letter| automaton.step(state, letter),
+        automaton.first(),
+        text,
+    )
 }

@@ -3,11 +3,11 @@
 --   one_alphabet    the kind with the one letter Only
 --   wide_alphabet   the kind of five flags: its 32 letters are numbered as the flags are read in base 2
 --   idle_model n    n states, of which each letter leaves each as it is
-use Rattle.std.specs.Prelude.{◌≡◌, ℕ, zero, suc, ◌+◌, ◌*◌, ◌/◌, ◌%◌, ◌<◌, ◌≤◌, Bool, true, false, cond, ltb, List, [], ◌∷◌, ◌++◌, is_some, Some, None, Option, ◌==◌, nat_eq, nat_lt, refl}
+use Rattle.std.specs.Prelude.{◌≡◌, ℕ, zero, suc, ◌+◌, ◌*◌, ◌/◌, ◌%◌, ◌<◌, ◌≤◌, Bool, true, false, cond, ltb, List, [], ◌∷◌, is_some, Some, None, Option, ◌==◌, nat_eq, nat_lt, refl}
 use Rattle.std.proofs.Common.{sym, ap, ◌∙◌, arith, lit<, lit≤}
 use Rattle.std.proofs.lemmas.Bool.{ne_eqb, le-ltb, lt-ltb, ltb-true}
 use Rattle.models.specs.Alphabet.{Alphabet, Numbered, Bears}
-use Rattle.models.specs.Automaton.{Next, Model, Lawful, walk, Passes, bind}
+use Rattle.models.specs.Automaton.{Next, Model, Lawful, walk, bind}
 use Rattle.models.proofs.Alphabets.{apart-given}
 use Rattle.base_tests.specs.declared.kinds.One.{One}
 use Rattle.base_tests.specs.declared.kinds.One.TheVariants.{Only}

@@ -10,13 +10,6 @@ use std::process::Abort;
 use std::test::Fail;
 use texts::{check_bytes, stray};
 
-fn refused<T: Drop>(made: Result<T, Fault>) -> Option<Fault> {
-    match made {
-        Ok(_) => None,
-        Err(fault) => Some(fault),
-    }
-}
-
 #[test]
 fn the_run_limit_is_1_to_8(rt: HostRuntime) -> Result<(), Fail> {
     for limit in 1..=8u16 {
@@ -27,8 +20,8 @@ fn the_run_limit_is_1_to_8(rt: HostRuntime) -> Result<(), Fail> {
     }
     for limit in [0, 9, 9999, 65535] {
         assert_eq!(rt;
-            refused(Run::<Two>::new(limit)),
-            Some(Fault::bad_limit(limit as usize))
+            Run::<Two>::new(limit).err(),
+            Some(Fault::BadLimit(limit as usize))
         );
     }
     Ok(())
@@ -102,7 +95,7 @@ fn a_pair_has_at_most_4096_states(rt: HostRuntime) -> Result<(), Fail> {
     }
     for (left, right, product) in [(17, 241, 4097), (2, 4096, 8192), (4096, 4096, 16777216)] {
         let pair = Pair::new(Idle::<Two>::new(left), Idle::<Two>::new(right));
-        assert_eq!(rt; refused(pair), Some(Fault::large_pair(product)));
+        assert_eq!(rt; pair.err(), Some(Fault::LargePair(product)));
     }
     Ok(())
 }
@@ -127,14 +120,8 @@ fn a_text_is_read_for_letters_first(rt: HostRuntime) -> Result<(), Fail> {
     assert_eq!(rt; check_bytes(&run, b"")?, None);
     assert_eq!(rt; check_bytes(&run, b"aaa")?, Some(2));
     assert_eq!(rt; check_bytes(&run, b"aabaabb")?, None);
-    assert_eq!(rt;
-        refused(check_bytes(&run, b"aaa?")),
-        Some(Fault::no_letter(3))
-    );
-    assert_eq!(rt;
-        refused(check_bytes(&run, b"\naa")),
-        Some(Fault::no_letter(0))
-    );
+    assert_eq!(rt; check_bytes(&run, b"aaa?").err(), Some(Fault::NoLetter(3)));
+    assert_eq!(rt; check_bytes(&run, b"\naa").err(), Some(Fault::NoLetter(0)));
     assert_eq!(rt; stray::<Seepage>(b"aAdDe"), Some(4));
     assert_eq!(rt; stray::<Seepage>(b""), None);
     Ok(())

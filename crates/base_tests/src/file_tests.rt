@@ -51,7 +51,7 @@ fn a_number_is_read_from_four_columns(rt: HostRuntime) {
     assert_eq!(rt; read_four(b""), None);
 }
 
-// How many lines there are, and how many of them break the rules.
+// How many lines there are, and how many of them break the rules. As many turns at most as there are bytes, so that it ends.
 fn counted(input: &[u8]) -> (usize, usize) {
     let mut lines = Lines::new(input);
     let mut broken = 0usize;
@@ -126,7 +126,7 @@ fn the_kind_comes_first(rt: HostRuntime) {
     }
 }
 
-// The line at which the settings of a file are refused, or 0.
+// The line at which the settings of a file are refused, or 0. As many turns at most as there are bytes, so that it ends.
 fn settings(input: &[u8]) -> usize {
     let mut lines = Lines::new(input);
     let mut form = Form::new();
@@ -173,7 +173,7 @@ fn only_remarks_follow_the_trace(rt: HostRuntime) -> Result<(), Fail> {
             assert_eq!(rt;
                 refusal,
                 Refusal {
-                    fault: Fault::broken_file(),
+                    fault: Fault::BrokenFile,
                     line: 2,
                 }
             );
@@ -187,31 +187,31 @@ fn a_refusal_is_one_line(rt: HostRuntime) {
     let mut bytes = [b'.'; 24];
     let mut page = Page::new(&mut bytes);
     Refusal {
-        fault: Fault::no_string(4),
+        fault: Fault::NoString(4),
         line: 12,
     }
     .show(&mut page);
     assert_eq!(rt; page.used(), 19);
     assert_eq!(rt; &bytes[0..20], b"R   8J     4    12\n.".as_slice());
     for (fault, byte) in [
-        (Fault::no_letter(1), b'L'),
-        (Fault::bad_length(13), b'P'),
-        (Fault::full_list(64), b'P'),
-        (Fault::short_tables(), b'P'),
-        (Fault::short_work(4), b'J'),
-        (Fault::bad_limit(9), b'S'),
-        (Fault::large_pair(4097), b'S'),
-        (Fault::bad_window(1), b'T'),
-        (Fault::long_memory(4), b'T'),
-        (Fault::stopped_context(1), b'J'),
-        (Fault::short_text(3), b'J'),
-        (Fault::long_context(50001), b'J'),
-        (Fault::full_sheet(), b'T'),
-        (Fault::broken_file(), b'F'),
+        (Fault::NoLetter(1), b'L'),
+        (Fault::BadLength(13), b'P'),
+        (Fault::FullList(64), b'P'),
+        (Fault::ShortTables, b'P'),
+        (Fault::ShortWork(4), b'J'),
+        (Fault::BadLimit(9), b'S'),
+        (Fault::LargePair(4097), b'S'),
+        (Fault::BadWindow(1), b'T'),
+        (Fault::LongMemory(4), b'T'),
+        (Fault::StoppedContext(1), b'J'),
+        (Fault::ShortText(3), b'J'),
+        (Fault::LongContext(50001), b'J'),
+        (Fault::FullSheet, b'T'),
+        (Fault::BrokenFile, b'F'),
     ] {
         assert_eq!(rt; fault.layer_byte(), byte);
     }
-    assert_eq!(rt; Fault::short_tables().place, 512);
-    assert_eq!(rt; Fault::full_sheet().place, 50000);
-    assert_eq!(rt; Fault::full_sheet().layer, Layer::Sheet);
+    assert_eq!(rt; Fault::ShortTables.place(), 512);
+    assert_eq!(rt; Fault::FullSheet.place(), 50000);
+    assert_eq!(rt; Fault::FullSheet.layer(), Layer::Sheet);
 }

@@ -42,11 +42,7 @@ impl<L: Letter> Automaton for Idle<L> {
     }
 
     fn step(&self, state: u16, _letter: L) -> Option<u16> {
-        if state < self.states {
-            Some(state)
-        } else {
-            None
-        }
+        (state < self.states).then_some(state)
     }
 
     fn memory(&self) -> u16 {

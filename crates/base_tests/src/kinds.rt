@@ -1,4 +1,5 @@
 // Kinds of 1 and of 32 letters: both ends of the range.
+ghost use Rattle.std.proofs.Common.{refl};
 ghost use Rattle.base_tests.specs.Kinds.{one_alphabet, one_numbered, wide_alphabet, wide_numbered};
 
 use letters::Letter;
@@ -11,20 +12,20 @@ pub enum One {
 impl Letter for One {
     const LETTERS: u8 = 1;
 
+    ghost LETTERS = { 1 };
+
     ghost alphabet = { one_alphabet };
 
     ghost numbered = { one_numbered };
 
-    fn count() -> u8 {
-        Self::LETTERS
-    }
+    ghost sized = { refl };
 
     fn number(self) -> u8 {
         0
     }
 
     fn from_number(n: u8) -> Option<One> {
-        if n == 0 { Some(One::Only) } else { None }
+        (n == 0).then_some(One::Only)
     }
 }
 
@@ -41,13 +42,13 @@ pub struct Wide {
 impl Letter for Wide {
     const LETTERS: u8 = 32;
 
+    ghost LETTERS = { 32 };
+
     ghost alphabet = { wide_alphabet };
 
     ghost numbered = { wide_numbered };
 
-    fn count() -> u8 {
-        Self::LETTERS
-    }
+    ghost sized = { refl };
 
     fn number(self) -> u8 {
         16 * self.a as u8

@@ -7,16 +7,14 @@
 ghost use Rattle.std.specs.Prelude.{◌≤◌, length};
 
 use checks::check_file;
-use joinings::{Desk, join_file};
+use files::INPUT;
+use joinings::{Desks, join_file};
+use pages::Printed;
 use rewrites::rewrite_file;
 use std::io;
 use std::io::{Read, Write};
-use tables::{Letters, Listing, WORK};
+use tables::{Letters, Listing, TEXT, WORK};
 
-// The letters of a file's contexts, as many as a file has bytes, and of the longest text.
-const CONTEXTS: usize = 60000;
-
-const TEXT: usize = 30000;
 // Longer than what is printed of any file.
 const PAGE: usize = TEXT + 512;
 
@@ -30,81 +28,66 @@ struct Tables {
 }
 
 impl Tables {
-    fn rewrite(&mut self, file: &[u8], out: &mut [u8]) -> (usize, bool)
-        ensures { result.0 ≤ length out.old }
+    fn rewrite(&mut self, file: &[u8], out: &mut [u8]) -> Printed
+        ensures { result.length ≤ length out.old }
     {
-        let printed = rewrite_file(
+        rewrite_file(
             file,
-            &mut self.list.records,
-            &mut self.list.words,
-            &mut self.text.two,
-            &mut self.text.trend,
-            &mut self.text.seepage,
+            &mut self.list.lend(),
+            &mut self.text.lend(),
             &mut self.search,
             out,
-        );
-        (printed.length, printed.written)
+        )
     }
 
-    fn join(&mut self, file: &[u8], out: &mut [u8]) -> (usize, bool)
-        ensures { result.0 ≤ length out.old }
+    fn join(&mut self, file: &[u8], out: &mut [u8]) -> Printed
+        ensures { result.length ≤ length out.old }
     {
-        let printed = join_file(
+        join_file(
             file,
-            &mut self.list.records,
-            &mut self.list.words,
-            Desk {
-                letters: &mut self.contexts.two,
-                text: &mut self.text.two,
-            },
-            Desk {
-                letters: &mut self.contexts.trend,
-                text: &mut self.text.trend,
-            },
-            Desk {
-                letters: &mut self.contexts.seepage,
-                text: &mut self.text.seepage,
-            },
+            &mut self.list.lend(),
+            &mut Desks::new(self.contexts.lend(), self.text.lend()),
             &mut self.search,
             out,
-        );
-        (printed.length, printed.joined)
+        )
     }
 
-    fn check(&mut self, file: &[u8], out: &mut [u8]) -> (usize, bool)
-        ensures { result.0 ≤ length out.old }
+    fn check(&mut self, file: &[u8], out: &mut [u8]) -> Printed
+        ensures { result.length ≤ length out.old }
     {
-        let printed = check_file(file, &mut self.list.records, &mut self.list.words, out);
-        (printed.length, printed.passes)
+        check_file(file, &mut self.list.lend(), out)
     }
 
-    // What the frame's program writes to `out`: how much, and whether its status is 0.
-    fn answer(&mut self, frame: &[u8], out: &mut [u8]) -> (usize, bool)
-        ensures { result.0 ≤ length out.old }
+    // What the frame's program writes to `out`; its status is 0 where it is done. A case for each program, since their calls
+    // take different tables.
+    fn answer(&mut self, frame: &[u8], out: &mut [u8]) -> Printed
+        ensures { result.length ≤ length out.old }
     {
         match frame {
             [b'w', file @ ..] => self.rewrite(file, out),
             [b'j', file @ ..] => self.join(file, out),
             [b'c', file @ ..] => self.check(file, out),
-            _ => (0, false),
+            _ => Printed {
+                length: 0,
+                done: false,
+            },
         }
     }
 }
 
 // Writes what a program printed, and its status.
-fn show(rt: &HostRuntime, printed: &[u8], good: bool) -> io::Result<()> {
+fn show(rt: &HostRuntime, printed: &[u8], done: bool) -> io::Result<()> {
     rt.stdout().write_all(printed)?;
-    rt.stdout().write_all(if good { b"0\n" } else { b"1\n" })
+    rt.stdout().write_all(if done { b"0\n" } else { b"1\n" })
 }
 
+// Answers each frame; bytes after the last byte 0 are no frame, and so `split` would give one piece too many.
 fn work(rt: &HostRuntime, input: &[u8], tables: &mut Tables, out: &mut [u8]) -> io::Result<()> {
-    let mut from = 0;
-    for (i, byte) in input.iter().enumerate() {
-        if *byte == 0 {
-            let (length, good) = tables.answer(&input[from..i], out);
-            show(rt, &out[0..length], good)?;
-            from = i + 1;
-        }
+    let mut rest = input;
+    while let Some(end) = rest.iter().position(|byte| *byte == 0) {
+        let Printed { length, done } = tables.answer(&rest[0..end], out);
+        show(rt, &out[0..length], done)?;
+        rest = &rest[end + 1..];
     }
     Ok(())
 }
@@ -115,7 +98,7 @@ fn main(rt: HostRuntime) -> io::Result<()> {
     rt.stdin().read_to_end(&mut input)?;
     let mut tables = Tables {
         list: Listing::new(heap)?,
-        contexts: Letters::new(heap, CONTEXTS)?,
+        contexts: Letters::new(heap, INPUT)?,
         text: Letters::new(heap, TEXT)?,
         search: vec![in heap; 0u16; WORK]?,
     };

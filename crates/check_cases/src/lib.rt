@@ -3,7 +3,8 @@
 
 #[cfg(test)]
 mod tests {
-    use checks::{Printed, check_file};
+    use checks::check_file;
+    use lent::LentList;
     use lists::Record;
     use std::alloc::Global;
     use std::process::Abort;
@@ -22,8 +23,15 @@ mod tests {
         let mut table = vec![in heap; Record::BLANK; records]?;
         let mut cells = vec![in heap; 0u16; words]?;
         let mut out = vec![in heap; b'.'; 256]?;
-        let printed = check_file(input, &mut table, &mut cells, &mut out);
-        assert_eq!(rt; printed.passes, passes);
+        let printed = check_file(
+            input,
+            &mut LentList {
+                records: &mut table,
+                words: &mut cells,
+            },
+            &mut out,
+        );
+        assert_eq!(rt; printed.done, passes);
         assert_eq!(rt; printed.length, want.len());
         out.truncate(printed.length);
         assert_eq!(rt; out.as_slice(), want);

@@ -34,12 +34,12 @@ module _ {K : Type 0} (A : Alphabet K) (parsed : ℕ → Option ℕ) (kind : Kin
   -- what was found, and what the lines after the trace come to
   pub body_is : (found : Result Finding Refusal) → found ≡ at_line (limited m A r.form.limit (λ u. finding u (reading A parsed) r.trace.now)) line
       → (t : Result (Unit {0}) Refusal) → t ≡ ended (x.line + 1) x.rest → (p : ℕ) → p ≡ length x.patterns
-      → and_then found (λ f. and_then t (λ _. Ok (record { kind = kind; patterns = p; limit = r.form.limit; finding = f }))) ≡ body kind A parsed n w l xs
+      → and_then found (λ f. and_then t (λ _. Ok (record { heading = record { kind = kind; patterns = p; limit = r.form.limit }; finding = f }))) ≡ body kind A parsed n w l xs
   body_is found efound t tail p ep =
-      ap (λ o. and_then o (λ f. and_then t (λ _. Ok (record { kind = kind; patterns = p; limit = r.form.limit; finding = f })))) (efound ∙ judged_is)
-      ∙ ap (λ o. and_then (judged A parsed x) (λ f. and_then o (λ _. Ok (record { kind = kind; patterns = p; limit = r.form.limit; finding = f })))) tail
-      ∙ ap (λ c. and_then (judged A parsed x) (λ f. and_then (ended (x.line + 1) x.rest) (λ _. Ok (record { kind = kind; patterns = c; limit = r.form.limit; finding = f })))) ep
-      ∙ ap (λ s. and_then (judged A parsed x) (λ f. and_then (ended (x.line + 1) x.rest) (λ _. Ok (record { kind = kind; patterns = length x.patterns; limit = s.limit; finding = f })))) ef
+      ap (λ o. and_then o (λ f. and_then t (λ _. Ok (record { heading = record { kind = kind; patterns = p; limit = r.form.limit }; finding = f })))) (efound ∙ judged_is)
+      ∙ ap (λ o. and_then (judged A parsed x) (λ f. and_then o (λ _. Ok (record { heading = record { kind = kind; patterns = p; limit = r.form.limit }; finding = f })))) tail
+      ∙ ap (λ c. and_then (judged A parsed x) (λ f. and_then (ended (x.line + 1) x.rest) (λ _. Ok (record { heading = record { kind = kind; patterns = c; limit = r.form.limit }; finding = f })))) ep
+      ∙ ap (λ s. and_then (judged A parsed x) (λ f. and_then (ended (x.line + 1) x.rest) (λ _. Ok (record { heading = record { kind = kind; patterns = length x.patterns; limit = s.limit }; finding = f })))) ef
       ∙ sym (ap (λ d. and_then d (λ d. and_then (judged A parsed d) (λ f. and_then (ended (d.line + 1) d.rest) (λ _. Ok (report_of kind d f))))) e)
 
 -- from what the calls on the way ensure: reading up to the trace, finishing the list, judging, and reading the rest
@@ -48,7 +48,7 @@ module _ {K : Type 0} (A : Alphabet K) (parsed : ℕ → Option ℕ) (kind : Kin
   pub body-from : (jr : Result Finding Fault) → jr ≡ limited (listed_model A s) A r.form.limit (λ u. finding u (reading A parsed) r.trace.now)
       → (line : ℕ) → line ≡ number → (found : Result Finding Refusal) → found ≡ at_line jr line
       → (t : Result (Unit {0}) Refusal) → t ≡ ended (number + 1) (items rest) → (p : ℕ) → p ≡ s.taken
-      → and_then found (λ f. and_then t (λ _. Ok (record { kind = kind; patterns = p; limit = r.form.limit; finding = f }))) ≡ body kind A parsed n w l xs
+      → and_then found (λ f. and_then t (λ _. Ok (record { heading = record { kind = kind; patterns = p; limit = r.form.limit }; finding = f }))) ≡ body kind A parsed n w l xs
   body-from jr ej line el found ef t et p ep =
       let d = read_ok (listed A (reading A parsed) n w l fresh [] xs) r number rest (Holds A n w b) (subst (λ o. ReadAs (listed A (reading A parsed) n w l fresh [] xs) o number rest (Holds A n w b)) er read) in
       let x = d.0 in

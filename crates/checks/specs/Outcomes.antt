@@ -21,7 +21,7 @@ use Rattle.checks.specs.declared.report.Finding.{Finding}
 use Rattle.checks.specs.declared.report.Report.{Report}
 
 abbrev pub report_of : {K : Type 0} → Kind → Listing K → Finding → Report
-report_of k l f = record { kind = k; patterns = length l.patterns; limit = l.form.limit; finding = f }
+report_of k l f = record { heading = record { kind = k; patterns = length l.patterns; limit = l.form.limit }; finding = f }
 
 -- the trace line is judged: its run limit, the pair, and then its text
 abbrev pub judged : {K : Type 0} → Alphabet K → (ℕ → Option ℕ) → Listing K → Result Finding Refusal

@@ -9,7 +9,7 @@ use Rattle.faults.specs.declared.Fault.{Fault}
 use Rattle.pages.specs.Pages.{labelled}
 use Rattle.stations.specs.Stations.{bind}
 use Rattle.texts.specs.Texts.{checked}
-use Rattle.headings.specs.Headings.{kind_line, limit_line, automaton_line}
+use Rattle.headings.specs.Headings.{heading_lines, automaton_line}
 use Rattle.checks.specs.declared.report.Finding.{Finding}
 use Rattle.checks.specs.declared.report.Report.{Report}
 
@@ -33,4 +33,4 @@ text_lines f =
 
 abbrev pub shown : Report → List ℕ
 shown r =
-    kind_line r.kind ++ (labelled (codes "patterns: ") r.patterns (10 ∷ []) ++ (limit_line r.limit ++ (automaton_line r.finding.states r.finding.memory ++ text_lines r.finding)))
+    heading_lines r.heading.kind r.heading.patterns r.heading.limit ++ (automaton_line r.finding.states r.finding.memory ++ text_lines r.finding)

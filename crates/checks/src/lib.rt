@@ -4,5 +4,5 @@
 pub mod outcome;
 pub mod report;
 
-pub use outcome::{Printed, check_file};
+pub use outcome::check_file;
 pub use report::{Finding, Report};

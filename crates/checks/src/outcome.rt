@@ -3,62 +3,60 @@ ghost use Rattle.std.specs.Prelude.{◌≡◌, ℕ, ◌+◌, min, List, [], leng
 ghost use Rattle.files.specs.Lines.{items};
 ghost use Rattle.pages.specs.Pages.{over, Wrote};
 ghost use Rattle.checks.specs.Outcomes.{body, body_of, outcome as outcome_of, printed, passed};
+ghost use Rattle.lent.specs.Lent.{SameList};
 
 use crate::report::{Report, judge_limited};
 use files::refusals::at_line;
-use files::{Lines, Refusal};
+use files::{INPUT, Lines, Refusal};
+use headings::{Heading, show_refusal};
+use lent::LentList;
 use letters::{Letter, Printable, Seepage, Trend, Two};
 use listings::read;
-use lists::{Builder, Record};
-use pages::Page;
+use lists::Builder;
+use pages::{Page, Printed};
 use stations::{Kind, early, header, tail};
 
-// The most bytes that a file may have.
-pub const INPUT: usize = 60000;
-
-// What was written, and whether the text passes.
-#[derive(Clone, Copy)]
-pub struct Printed {
-    pub length: usize,
-    pub passes: bool,
-}
-
 // A file of the kind `L` from the line after its kind line on.
+// It begins as every program does, in four lines that name all that a function for them would have to give back. `kind`
+// is the value for `L`: letters know of no file.
 fn check_body<L: Printable>(
     kind: Kind,
     lines: &mut Lines<'_>,
-    records: &mut [Record],
-    words: &mut [u16],
+    tables: &mut LentList<'_>,
 ) -> Result<Report, Refusal>
-    ensures { result ≡ body kind L.Letter.alphabet L.Printable.parsed (length records.old) (length words.old) (lines.old.number + 1) (items lines.old.rest.now) }
+    ensures answer { result ≡ body kind L.Letter.alphabet L.Printable.parsed (length tables.old.records.now) (length tables.old.words.now) (lines.old.number + 1) (items lines.old.rest.now) }
+    ensures list { SameList tables.old tables.new }
 {
-    let mut list = Builder::<L>::start(records, words);
+    let mut list = Builder::<L>::start(tables.records, tables.words);
     let preface = read(lines, &mut list)?;
     let listed = list.finish();
-    let patterns = listed.patterns();
-    let limit = preface.form.limit;
-    let finding = at_line(judge_limited(listed, limit, preface.trace), lines.number())?;
-    tail(lines)?;
-    Ok(Report {
+    let heading = Heading {
         kind,
-        patterns,
-        limit,
-        finding,
-    })
+        patterns: listed.patterns(),
+        limit: preface.form.limit,
+    };
+    let finding = at_line(
+        judge_limited(listed, heading.limit, preface.trace),
+        lines.number(),
+    )?;
+    tail(lines)?;
+    Ok(Report { heading, finding })
 }
 
 // The report on a file, or its first refusal.
-fn outcome(input: &[u8], records: &mut [Record], words: &mut [u16]) -> Result<Report, Refusal>
-    ensures { result ≡ outcome_of (length records.old) (length words.old) input.now }
+// A case for each kind, since a kind is a type and no closure is generic over types.
+fn outcome(input: &[u8], tables: &mut LentList<'_>) -> Result<Report, Refusal>
+    ensures answer { result ≡ outcome_of (length tables.old.records.now) (length tables.old.words.now) input.now }
+    ensures list { SameList tables.old tables.new }
 {
     if input.len() > INPUT {
         return Err(early());
     }
     let mut lines = Lines::new(input);
     match header(&mut lines)? {
-        Kind::Two => check_body::<Two>(Kind::Two, &mut lines, records, words),
-        Kind::Trend => check_body::<Trend>(Kind::Trend, &mut lines, records, words),
-        Kind::Seepage => check_body::<Seepage>(Kind::Seepage, &mut lines, records, words),
+        Kind::Two => check_body::<Two>(Kind::Two, &mut lines, tables),
+        Kind::Trend => check_body::<Trend>(Kind::Trend, &mut lines, tables),
+        Kind::Seepage => check_body::<Seepage>(Kind::Seepage, &mut lines, tables),
     }
 }
 
@@ -72,30 +70,23 @@ fn show(outcome: Result<Report, Refusal>, page: &mut Page<'_>) -> bool
             report.show(page);
             report.finding.stopped.is_none()
         }
-        Err(refusal) => {
-            refusal.show(page);
-            false
-        }
+        Err(refusal) => show_refusal(refusal, page),
     }
 }
 
-// Checks the text of a station file, and writes the report or the refusal line to the front of `out`. The list of the
-// file's patterns is built on `records` and `words`.
-pub fn check_file(
-    input: &[u8],
-    records: &mut [Record],
-    words: &mut [u16],
-    out: &mut [u8],
-) -> Printed
-    ensures out { out.new ≡ over (printed (outcome_of (length records.old) (length words.old) input.now)) out.old }
-    ensures length { result.length ≡ min (length (printed (outcome_of (length records.old) (length words.old) input.now))) (length out.old) }
-    ensures passes { result.passes ≡ passed (outcome_of (length records.old) (length words.old) input.now) }
+// Checks the text of a station file, and writes the report or the refusal line to the front of `out`; it is done where the
+// text passes. The list of the file's patterns is built on `tables`.
+pub fn check_file(input: &[u8], tables: &mut LentList<'_>, out: &mut [u8]) -> Printed
+    ensures out { out.new ≡ over (printed (outcome_of (length tables.old.records.now) (length tables.old.words.now) input.now)) out.old }
+    ensures length { result.length ≡ min (length (printed (outcome_of (length tables.old.records.now) (length tables.old.words.now) input.now))) (length out.old) }
+    ensures passes { result.done ≡ passed (outcome_of (length tables.old.records.now) (length tables.old.words.now) input.now) }
+    ensures list { SameList tables.old tables.new }
 {
-    let outcome = outcome(input, records, words);
+    let outcome = outcome(input, tables);
     let mut page = Page::new(out);
-    let passes = show(outcome, &mut page);
+    let done = show(outcome, &mut page);
     Printed {
         length: page.used(),
-        passes,
+        done,
     }
 }

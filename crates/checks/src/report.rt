@@ -1,7 +1,5 @@
 // What is found of a text, and the report of it.
-ghost use Rattle.std.specs.Prelude.{◌≡◌, ◌*◌, [], ◌∷◌, ◌++◌, if◌then◌else◌, Err, nat_le};
-ghost use Rattle.faults.specs.Causes.{large_pair};
-ghost use Rattle.pairlaw.specs.Pairs.{pair_model};
+ghost use Rattle.std.specs.Prelude.{◌≡◌, [], ◌∷◌, ◌++◌};
 ghost use Rattle.pages.specs.Pages.{Wrote};
 ghost use Rattle.texts.specs.Texts.{reading};
 ghost use Rattle.listings.specs.Listings.{limited};
@@ -9,12 +7,10 @@ ghost use Rattle.checks.specs.Reports.{finding, shown, text_lines, verdict as ve
 
 use automata::Automaton;
 use faults::Fault;
-use headings::{show_automaton, show_kind, show_limit};
+use headings::{Heading, show_automaton};
 use letters::{Letter, Printable};
+use listings::Limited;
 use pages::Page;
-use pairs::Pair;
-use runs::Run;
-use stations::Kind;
 use texts::check_bytes;
 
 // What came of a text: the automaton's count of states and its memory, the letters of the text, and the place of the
@@ -27,11 +23,10 @@ pub struct Finding {
     pub stopped: Option<usize>,
 }
 
+// What a file says of its automaton, and what is found of its text; the join finds other things of its contexts.
 #[derive(Clone, Copy)]
 pub struct Report {
-    pub kind: Kind,
-    pub patterns: usize,
-    pub limit: Option<u16>,
+    pub heading: Heading,
     pub finding: Finding,
 }
 
@@ -50,21 +45,8 @@ where
     })
 }
 
-// Checks `text` by two automata at once.
-fn judge_both<P: Automaton + Drop, Q: Automaton<Kind = P::Kind> + Drop>(
-    left: P,
-    right: Q,
-    text: &[u8],
-) -> Result<Finding, Fault>
-where
-    P::Kind: Printable,
-    ensures { result ≡ (if nat_le ((P.Automaton.model left).count * (Q.Automaton.model right).count) 4096 then finding (pair_model (P.Automaton.model left) (Q.Automaton.model right)) (reading P.Kind.Letter.alphabet P.Kind.Printable.parsed) text.now else Err (large_pair ((P.Automaton.model left).count * (Q.Automaton.model right).count))) }
-{
-    let pair = Pair::new(left, right)?;
-    judge(&pair, text)
-}
-
-// Checks `text` by `automaton`, and by the run automaton too where there is a limit.
+// Checks `text` by `automaton`, and by the run automaton too where there is a limit. It stands alone since the check does
+// not cover a body that keeps a `Limited` on the lent list.
 pub fn judge_limited<P: Automaton + Drop>(
     automaton: P,
     limit: Option<u16>,
@@ -74,12 +56,9 @@ where
     P::Kind: Printable,
     ensures { result ≡ limited (P.model automaton) P.Kind.Letter.alphabet limit (λ m. finding m (reading P.Kind.Letter.alphabet P.Kind.Printable.parsed) text.now) }
 {
-    match limit {
-        Some(r) => {
-            let run = Run::<P::Kind>::new(r)?;
-            judge_both(automaton, run, text)
-        }
-        None => judge(&automaton, text),
+    match Limited::new(automaton, limit)? {
+        Limited::Alone(automaton) => judge(&automaton, text),
+        Limited::Both(pair) => judge(&pair, text),
     }
 }
 
@@ -109,9 +88,7 @@ impl Report {
     pub fn show(&self, page: &mut Page<'_>)
         ensures { Wrote page.old page.new (shown self.now) }
     {
-        show_kind(self.kind, page);
-        page.labelled(b"patterns: ", self.patterns, b"\n");
-        show_limit(self.limit, page);
+        self.heading.show(page);
         show_automaton(self.finding.states, self.finding.memory, page);
         show_text(&self.finding, page);
     }

@@ -3,7 +3,7 @@
 #![tactic(auto)]
 
 ghost use Rattle.std.specs.Prelude.{◌≡◌};
-ghost use Rattle.faults.specs.Causes.{no_letter, bad_length, full_list, short_tables, short_work, bad_limit, large_pair, bad_window, long_memory, stopped_context, no_string, short_text, long_context, full_sheet, broken_file, layer_byte};
+ghost use Rattle.faults.specs.Causes.{number_of, layer_of, place_of, layer_byte};
 
 // The part of the work that refuses.
 #[derive(Clone, Copy, Debug, PartialEq, Eq)]
@@ -16,177 +16,98 @@ pub enum Layer {
     File,
 }
 
-// Why a call was refused, and where. Each cause has a function of its own below; nothing else makes a fault.
+// Why a call was refused, and where: what a case holds tells its place, where that is not fixed.
 #[derive(Clone, Copy, Debug, PartialEq, Eq)]
-pub struct Fault {
-    pub number: u8,
-    pub layer: Layer,
-    pub place: usize,
+pub enum Fault {
+    // A byte that is no letter, nor `?` in a trace; its place in the pattern, text or trace.
+    NoLetter(usize),
+    // A pattern of 0 or over 12 letters; its length.
+    BadLength(usize),
+    // A 65th pattern, or a 513th state; the patterns held.
+    FullList(usize),
+    // The list's tables are too short.
+    ShortTables,
+    // The work table is too short; the words needed.
+    ShortWork(usize),
+    // A run limit that is not 1 to 8.
+    BadLimit(usize),
+    // A pair of over 4,096 states; the product of the two counts.
+    LargePair(usize),
+    // A window length that is not 2 to 12.
+    BadWindow(usize),
+    // An automaton whose memory is above the window length; the memory.
+    LongMemory(usize),
+    // A context that does not pass alone; where it is stopped, in the right one counted on from the end of the left.
+    StoppedContext(usize),
+    // No such string exists; 0 in a join, in a sheet the letters and gaps taken.
+    NoString(usize),
+    // The answer, in a sheet the whole new text, is longer than the text table; its length.
+    ShortText(usize),
+    // A context of over 50,000 letters; its length.
+    LongContext(usize),
+    // 50,000 letters and gaps are taken.
+    FullSheet,
+    // A file that breaks the line rules.
+    BrokenFile,
 }
 
 impl Fault {
-    // A byte that is no letter, nor `?` in a trace; its place in the pattern, text or trace.
-    pub fn no_letter(place: usize) -> Fault
-        ensures { result ≡ no_letter place }
+    // The number of the cause, 1 to 11.
+    pub fn number(self) -> u8
+        ensures { result ≡ number_of self }
     {
-        Fault {
-            number: 1,
-            layer: Layer::Letter,
-            place,
+        match self {
+            Fault::NoLetter(_) => 1,
+            Fault::BadLength(_) => 2,
+            Fault::FullList(_) => 3,
+            Fault::ShortTables | Fault::ShortWork(_) => 4,
+            Fault::BadLimit(_) | Fault::LargePair(_) | Fault::BadWindow(_) => 5,
+            Fault::LongMemory(_) => 6,
+            Fault::StoppedContext(_) => 7,
+            Fault::NoString(_) => 8,
+            Fault::ShortText(_) => 9,
+            Fault::LongContext(_) | Fault::FullSheet => 10,
+            Fault::BrokenFile => 11,
         }
     }
 
-    // A pattern of 0 or over 12 letters; its length.
-    pub fn bad_length(length: usize) -> Fault
-        ensures { result ≡ bad_length length }
+    // The part of the work that refuses.
+    pub fn layer(self) -> Layer
+        ensures { result ≡ layer_of self }
     {
-        Fault {
-            number: 2,
-            layer: Layer::List,
-            place: length,
+        match self {
+            Fault::NoLetter(_) => Layer::Letter,
+            Fault::BadLength(_) | Fault::FullList(_) | Fault::ShortTables => Layer::List,
+            Fault::BadLimit(_) | Fault::LargePair(_) => Layer::Automaton,
+            Fault::ShortWork(_)
+            | Fault::StoppedContext(_)
+            | Fault::NoString(_)
+            | Fault::ShortText(_)
+            | Fault::LongContext(_) => Layer::Join,
+            Fault::BadWindow(_) | Fault::LongMemory(_) | Fault::FullSheet => Layer::Sheet,
+            Fault::BrokenFile => Layer::File,
         }
     }
 
-    // A 65th pattern, or a 513th state; the patterns held.
-    pub fn full_list(held: usize) -> Fault
-        ensures { result ≡ full_list held }
+    // Where it was found, or the length or count that is at fault.
+    pub fn place(self) -> usize
+        ensures { result ≡ place_of self }
     {
-        Fault {
-            number: 3,
-            layer: Layer::List,
-            place: held,
-        }
-    }
-
-    // The list's tables are too short.
-    pub fn short_tables() -> Fault
-        ensures { result ≡ short_tables }
-    {
-        Fault {
-            number: 4,
-            layer: Layer::List,
-            place: 512,
-        }
-    }
-
-    // The work table is too short; the words needed.
-    pub fn short_work(needed: usize) -> Fault
-        ensures { result ≡ short_work needed }
-    {
-        Fault {
-            number: 4,
-            layer: Layer::Join,
-            place: needed,
-        }
-    }
-
-    // A run limit that is not 1 to 8.
-    pub fn bad_limit(limit: usize) -> Fault
-        ensures { result ≡ bad_limit limit }
-    {
-        Fault {
-            number: 5,
-            layer: Layer::Automaton,
-            place: limit,
-        }
-    }
-
-    // A pair of over 4,096 states; the product of the two counts.
-    pub fn large_pair(product: usize) -> Fault
-        ensures { result ≡ large_pair product }
-    {
-        Fault {
-            number: 5,
-            layer: Layer::Automaton,
-            place: product,
-        }
-    }
-
-    // A window length that is not 2 to 12.
-    pub fn bad_window(length: usize) -> Fault
-        ensures { result ≡ bad_window length }
-    {
-        Fault {
-            number: 5,
-            layer: Layer::Sheet,
-            place: length,
-        }
-    }
-
-    // An automaton whose memory is above the window length; the memory.
-    pub fn long_memory(memory: usize) -> Fault
-        ensures { result ≡ long_memory memory }
-    {
-        Fault {
-            number: 6,
-            layer: Layer::Sheet,
-            place: memory,
-        }
-    }
-
-    // A context that does not pass alone; where it is stopped, in the right one counted on from the end of the left.
-    pub fn stopped_context(place: usize) -> Fault
-        ensures { result ≡ stopped_context place }
-    {
-        Fault {
-            number: 7,
-            layer: Layer::Join,
-            place,
-        }
-    }
-
-    // No such string exists; 0 in a join, in a sheet the letters and gaps taken.
-    pub fn no_string(taken: usize) -> Fault
-        ensures { result ≡ no_string taken }
-    {
-        Fault {
-            number: 8,
-            layer: Layer::Join,
-            place: taken,
-        }
-    }
-
-    // The answer, in a sheet the whole new text, is longer than the text table; its length.
-    pub fn short_text(length: usize) -> Fault
-        ensures { result ≡ short_text length }
-    {
-        Fault {
-            number: 9,
-            layer: Layer::Join,
-            place: length,
-        }
-    }
-
-    // A context of over 50,000 letters; its length.
-    pub fn long_context(length: usize) -> Fault
-        ensures { result ≡ long_context length }
-    {
-        Fault {
-            number: 10,
-            layer: Layer::Join,
-            place: length,
-        }
-    }
-
-    // 50,000 letters and gaps are taken.
-    pub fn full_sheet() -> Fault
-        ensures { result ≡ full_sheet }
-    {
-        Fault {
-            number: 10,
-            layer: Layer::Sheet,
-            place: 50000,
-        }
-    }
-
-    // A file that breaks the line rules.
-    pub fn broken_file() -> Fault
-        ensures { result ≡ broken_file }
-    {
-        Fault {
-            number: 11,
-            layer: Layer::File,
-            place: 0,
+        match self {
+            Fault::NoLetter(place) | Fault::StoppedContext(place) => place,
+            Fault::BadLength(length)
+            | Fault::BadWindow(length)
+            | Fault::ShortText(length)
+            | Fault::LongContext(length) => length,
+            Fault::FullList(held) => held,
+            Fault::ShortTables => 512,
+            Fault::ShortWork(needed) => needed,
+            Fault::BadLimit(limit) => limit,
+            Fault::LargePair(product) => product,
+            Fault::LongMemory(memory) => memory,
+            Fault::NoString(taken) => taken,
+            Fault::FullSheet => 50000,
+            Fault::BrokenFile => 0,
         }
     }
 
@@ -194,7 +115,7 @@ impl Fault {
     pub fn layer_byte(self) -> u8
         ensures { result ≡ layer_byte self }
     {
-        match self.layer {
+        match self.layer() {
             Layer::Letter => b'L',
             Layer::List => b'P',
             Layer::Automaton => b'S',

@@ -1,13 +1,7 @@
 -- How a file is cut into its lines.
-use Rattle.std.proofs.Common.{◌≡◌, ℕ, zero, suc, ◌+◌, ◌-◌, ◌<◌, true, false, eqb, List, [], ◌∷◌, length, get_or, take, drop, sym, ap, add-one, arith}
-use Rattle.std.proofs.lemmas.List.{take_rest}
+use Rattle.std.proofs.Common.{◌≡◌, ℕ, zero, suc, ◌+◌, ◌<◌, true, false, eqb, List, [], ◌∷◌, length, get_or, take, drop, add-one, arith}
 use Rattle.std.proofs.lemmas.Bool.Decides.{nat_tests}
-use Rattle.files.specs.Lines.{lines, said, begun}
-
--- a line that is not empty is its first byte and the rest
-pub said-first : (bs : List ℕ) → 0 < length bs → said bs ≡ begun (get_or bs 0 0) (take (length bs - 1) (drop 1 bs))
-said-first [] h = absurd (omega arith)
-said-first (b ∷ bs) h = ap (begun b) (sym (take_rest (b ∷ bs) 1))
+use Rattle.files.specs.Lines.{lines}
 
 -- the first n bytes hold no newline, and one stands at n: the first line is those n
 cut : (n : ℕ) (bs : List ℕ) → n < length bs → ((k : ℕ) → k < n → get_or bs k 0 ≡ 10 → ⊥) → get_or bs n 0 ≡ 10 → lines bs ≡ take n bs ∷ lines (drop (suc n) bs)

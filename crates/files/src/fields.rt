@@ -1,37 +1,18 @@
 // Numbers that stand right-justified with blanks in columns.
 ghost use Rattle.std.specs.Prelude.{◌≡◌};
-ghost use Rattle.files.specs.Fields.{Under, column as one_more, number as number_of, read as read_in};
+ghost use Rattle.files.specs.Fields.{Under, column as one_more, read as read_in};
 
-// What was read of a field so far.
-#[derive(Clone, Copy)]
-pub enum Field {
-    Blank,
-    Zero,
-    Value(u16),
-    Broken,
-}
-
-// One more byte of a field.
-fn column(field: Field, b: u8) -> Field
-    requires { Under 1000 field }
-    ensures { result ≡ one_more field b }
+// One more byte of a field, of which a number was read so far, or None while only blanks came. None where the byte
+// breaks the field: a blank after a digit, a digit after the digit 0 alone, or any other byte.
+fn column(read: Option<u16>, b: u8) -> Option<Option<u16>>
+    requires { Under 1000 read }
+    ensures { result ≡ one_more read b }
 {
-    match (field, b) {
-        (Field::Blank, b' ') => Field::Blank,
-        (Field::Blank, b'0') => Field::Zero,
-        (Field::Blank, b'1'..=b'9') => Field::Value((b - b'0') as u16),
-        (Field::Value(n), b'0'..=b'9') => Field::Value(n * 10 + (b - b'0') as u16),
-        _ => Field::Broken,
-    }
-}
-
-fn number(field: Field) -> Option<u16>
-    ensures { result ≡ number_of field }
-{
-    match field {
-        Field::Zero => Some(0),
-        Field::Value(n) => Some(n),
-        Field::Blank | Field::Broken => None,
+    match (read, b) {
+        (None, b' ') => Some(None),
+        (None, b'0'..=b'9') => Some(Some((b - b'0') as u16)),
+        (Some(n), b'0'..=b'9') if n > 0 => Some(Some(n * 10 + (b - b'0') as u16)),
+        _ => None,
     }
 }
 
@@ -42,9 +23,9 @@ pub fn read_four(s: &[u8]) -> Option<u16>
     if s.len() != 4 {
         return None;
     }
-    let mut field = Field::Blank;
+    let mut read = None;
     for b in s {
-        field = column(field, *b);
+        read = column(read, *b)?;
     }
-    number(field)
+    read
 }

@@ -32,7 +32,7 @@ fn begun(first: u8, content: &[u8]) -> Result<Line<'_>, Fault>
         b'r' => Ok(Line::Setting(Name::Limit, content)),
         b'!' => Ok(Line::Pattern(content)),
         b'>' => Ok(Line::Trace(content)),
-        _ => Err(Fault::broken_file()),
+        _ => Err(Fault::BrokenFile),
     }
 }
 
@@ -41,7 +41,7 @@ pub fn classify(line: &[u8]) -> Result<Line<'_>, Fault>
     ensures { meant result ≡ said line.now }
 {
     match line {
-        [] => Err(Fault::broken_file()),
+        [] => Err(Fault::BrokenFile),
         [first, content @ ..] => begun(*first, content),
     }
 }
@@ -52,15 +52,14 @@ fn line_len(bytes: &[u8]) -> usize
     ensures before { (k : ℕ) → k < result → slice_index bytes.now k ≢ 10 }
     ensures found { result < length bytes.now → slice_index bytes.now result ≡ 10 }
 {
-    for (i, b) in bytes.iter().enumerate() {
-        if *b == b'\n' {
-            return i;
-        }
-    }
-    bytes.len()
+    bytes
+        .iter()
+        .position(|b| *b == b'\n')
+        .unwrap_or(bytes.len())
 }
 
-// The lines that are left of a file, and the number of the last one taken, from 1.
+// The lines that are left of a file, and the number of the last one taken, from 1. No iterator of the library, since whoever
+// reads them is promised the number and what is left.
 #[derive(Drop)]
 pub struct Lines<'a> {
     rest: &'a [u8],
@@ -109,9 +108,6 @@ impl<'a> Lines<'a> {
         ensures shorter { elim result [ None ↦ length self.old.rest.now ≡ 0 | Some l ↦ length self.new.rest.now < length self.old.rest.now ] }
         ensures number { elim result [ None ↦ (self.new.number ≡ self.old.number) × (self.new.rest.now ≡ self.old.rest.now) | Some l ↦ self.new.number ≡ self.old.number + 1 ] }
     {
-        match self.take_line() {
-            Some(line) => Some(classify(line)),
-            None => None,
-        }
+        self.take_line().map(classify)
     }
 }

@@ -9,6 +9,7 @@ use pages::Page;
 #[derive(Clone, Copy, Debug, PartialEq, Eq)]
 pub struct Refusal {
     pub fault: Fault,
+    // 0 where it is of no line, as it is printed
     pub line: usize,
 }
 
@@ -16,10 +17,7 @@ pub struct Refusal {
 pub fn at_line<T>(res: Result<T, Fault>, line: usize) -> Result<T, Refusal>
     ensures { result ≡ at_line res line }
 {
-    match res {
-        Ok(value) => Ok(value),
-        Err(fault) => Err(Refusal { fault, line }),
-    }
+    res.map_err(|fault| Refusal { fault, line })
 }
 
 impl Refusal {
@@ -28,9 +26,9 @@ impl Refusal {
         ensures { Wrote page.old page.new (refusal_line self.now) }
     {
         page.push(b'R');
-        page.columns(4, self.fault.number as usize);
+        page.columns(4, self.fault.number() as usize);
         page.push(self.fault.layer_byte());
-        page.columns(6, self.fault.place);
+        page.columns(6, self.fault.place());
         page.columns(6, self.line);
         page.push(b'\n');
     }

@@ -3,6 +3,7 @@
 --   letter_bytes printed size   the printed letters of a kind, by number
 --   kind_line k                 the kind: its name and its letters
 --   limit_line r                the run limit
+--   heading_lines k n r         the kind, the number of patterns and the run limit
 --   automaton_line n m          the automaton's count of states, and its memory
 use Rattle.std.specs.Prelude.{ℕ, List, [], ◌∷◌, ◌++◌, map, Some, None, codes, Option}
 use Rattle.std.specs.List.{range_with_len}
@@ -24,6 +25,9 @@ kind_line Seepage = codes "kind Q: " ++ (letter_bytes seepage_printed 8 ++ (10 �
 abbrev pub limit_line : Option ℕ → List ℕ
 limit_line (Some r) = labelled (codes "run limit: ") r (10 ∷ [])
 limit_line None = codes "run limit: none\n"
+
+abbrev pub heading_lines : Kind → ℕ → Option ℕ → List ℕ
+heading_lines k n r = kind_line k ++ (labelled (codes "patterns: ") n (10 ∷ []) ++ limit_line r)
 
 abbrev pub automaton_line : ℕ → ℕ → List ℕ
 automaton_line n m = labelled (codes "automaton: ") n (codes " states, memory ") ++ labelled [] m (10 ∷ [])

@@ -1,54 +1,35 @@
-// Automata for the cases: two with two states, in which one letter is stopped right after another, and one that stops
-// every letter.
-ghost use Rattle.letters.specs.Two.{two_number};
-ghost use Rattle.letters.specs.Trends.{trend_number};
+// Automata for the cases: one with two states, in which a letter is stopped right after another, and one that stops every
+// letter.
 ghost use Rattle.join_cases.specs.After.{after_model, after_lawful};
 ghost use Rattle.join_cases.specs.Shut.{shut_model, shut_lawful};
 
 use automata::Automaton;
-use letters::{Trend, Two};
+use letters::{Letter, Trend, Two};
 
-// `b` is stopped right after `a`.
-pub struct NoAb;
-
-impl Automaton for NoAb {
-    type Kind = Two;
-
-    ghost model = { λ s. after_model two_number 0 1 };
-
-    ghost lawful = { λ s. after_lawful two_number 0 1 };
-
-    fn states(&self) -> u16 {
-        2
-    }
-
-    fn first(&self) -> u16 {
-        0
-    }
-
-    fn step(&self, state: u16, letter: Two) -> Option<u16> {
-        match (state, letter) {
-            (0, Two::A) => Some(1),
-            (0, Two::B) => Some(0),
-            (1, Two::A) => Some(1),
-            _ => None,
-        }
-    }
-
-    fn memory(&self) -> u16 {
-        1
-    }
+// `second` is stopped right after `first`. State 1 is after `first`.
+pub struct After<L> {
+    first: L,
+    second: L,
 }
 
+// `b` is stopped right after `a`.
+pub const NO_AB: After<Two> = After {
+    first: Two::A,
+    second: Two::B,
+};
+
 // A fall is stopped right after a rise.
-pub struct Calm;
+pub const CALM: After<Trend> = After {
+    first: Trend::Rise,
+    second: Trend::Fall,
+};
 
-impl Automaton for Calm {
-    type Kind = Trend;
+impl<L: Letter> Automaton for After<L> {
+    type Kind = L;
 
-    ghost model = { λ s. after_model trend_number 1 2 };
+    ghost model = { λ s. after_model L.Letter.alphabet.number (L.Letter.alphabet.number s.first) (L.Letter.alphabet.number s.second) };
 
-    ghost lawful = { λ s. after_lawful trend_number 1 2 };
+    ghost lawful = { λ s. after_lawful L.Letter.alphabet.number (L.Letter.alphabet.number s.first) (L.Letter.alphabet.number s.second) };
 
     fn states(&self) -> u16 {
         2
@@ -58,13 +39,12 @@ impl Automaton for Calm {
         0
     }
 
-    fn step(&self, state: u16, letter: Trend) -> Option<u16> {
-        match (state, letter) {
-            (0, Trend::Rise) => Some(1),
-            (0, _) => Some(0),
-            (1, Trend::Rise) => Some(1),
-            (1, Trend::Fall) => None,
-            (1, _) => Some(0),
+    fn step(&self, state: u16, letter: L) -> Option<u16> {
+        let number = letter.number();
+        let to = (number == self.first.number()) as u16;
+        match state {
+            0 => Some(to),
+            1 if number != self.second.number() => Some(to),
             _ => None,
         }
     }

@@ -11,7 +11,7 @@ fn overlaps_by_one(rt: HostRuntime) -> Result<(), Fail> {
     let mut text = [Two::B; 4];
     let mut work = [65535u16; 10];
     let r = join(
-        &NoAb,
+        &NO_AB,
         &[Two::B, Two::A],
         &[Two::A, Two::A],
         &mut text,
@@ -35,7 +35,7 @@ fn overlaps_by_one(rt: HostRuntime) -> Result<(), Fail> {
 fn fills_the_first_letter(rt: HostRuntime) -> Result<(), Fail> {
     let mut text = [Trend::ScaleMark; 4];
     let mut work = [7u16; 8];
-    let r = join(&Calm, &[Trend::Rise], &[Trend::Fall], &mut text, &mut work)?;
+    let r = join(&CALM, &[Trend::Rise], &[Trend::Fall], &mut text, &mut work)?;
     assert_eq!(rt;
         r,
         Joined {
@@ -58,13 +58,13 @@ fn needs_room_for_the_string(rt: HostRuntime) -> Result<(), Fail> {
     let mut short = [Trend::ScaleMark; 2];
     let mut work = [7u16; 8];
     assert_eq!(rt;
-        join(&Calm, &[Trend::Rise], &[Trend::Fall], &mut short, &mut work),
-        Err(Fault::short_text(3))
+        join(&CALM, &[Trend::Rise], &[Trend::Fall], &mut short, &mut work),
+        Err(Fault::ShortText(3))
     );
     assert_eq!(rt; short, [Trend::ScaleMark; 2]);
     assert_eq!(rt; work, [0; 8]);
     let mut text = [Trend::ScaleMark; 3];
-    let r = join(&Calm, &[Trend::Rise], &[Trend::Fall], &mut text, &mut work)?;
+    let r = join(&CALM, &[Trend::Rise], &[Trend::Fall], &mut text, &mut work)?;
     assert_eq!(rt; r.length, 3);
     assert_eq!(rt; text, [Trend::Rise, Trend::Steady, Trend::Fall]);
     Ok(())
@@ -76,7 +76,7 @@ fn whole_and_empty_contexts(rt: HostRuntime) -> Result<(), Fail> {
     let mut text = [Two::B; 3];
     let mut work = [1u16; 8];
     let whole = join(
-        &NoAb,
+        &NO_AB,
         &[Two::A, Two::A],
         &[Two::A, Two::A],
         &mut text,
@@ -110,26 +110,26 @@ fn refuses(rt: HostRuntime) {
     let mut text = [Two::B; 4];
     let mut work = [9u16; 8];
     assert_eq!(rt;
-        join(&NoAb, &[Two::A], &[Two::B], &mut text, &mut work),
-        Err(Fault::no_string(0))
+        join(&NO_AB, &[Two::A], &[Two::B], &mut text, &mut work),
+        Err(Fault::NoString(0))
     );
     assert_eq!(rt; work, [0; 8]);
     assert_eq!(rt;
-        join(&NoAb, &[Two::A, Two::B], &[Two::B], &mut text, &mut work),
-        Err(Fault::stopped_context(1))
+        join(&NO_AB, &[Two::A, Two::B], &[Two::B], &mut text, &mut work),
+        Err(Fault::StoppedContext(1))
     );
     assert_eq!(rt;
-        join(&NoAb, &[Two::B], &[Two::A, Two::B], &mut text, &mut work),
-        Err(Fault::stopped_context(2))
+        join(&NO_AB, &[Two::B], &[Two::A, Two::B], &mut text, &mut work),
+        Err(Fault::StoppedContext(2))
     );
     assert_eq!(rt;
         join(&Shut, &[], &[Two::B], &mut text, &mut work),
-        Err(Fault::stopped_context(0))
+        Err(Fault::StoppedContext(0))
     );
     let mut short = [9u16; 7];
     assert_eq!(rt;
-        join(&NoAb, &[Two::A], &[Two::A], &mut text, &mut short),
-        Err(Fault::short_work(8))
+        join(&NO_AB, &[Two::A], &[Two::A], &mut text, &mut short),
+        Err(Fault::ShortWork(8))
     );
     assert_eq!(rt; short, [9; 7]);
     assert_eq!(rt; text, [Two::B; 4]);
@@ -142,7 +142,7 @@ fn long_contexts(rt: HostRuntime) -> Result<(), Fail> {
     let mut text = [Two::B; 50000];
     let mut work = [9u16; 8];
     let r = join(
-        &NoAb,
+        &NO_AB,
         &letters[0..50000],
         &letters[0..50000],
         &mut text,
@@ -157,12 +157,12 @@ fn long_contexts(rt: HostRuntime) -> Result<(), Fail> {
         }
     );
     assert_eq!(rt;
-        join(&NoAb, &letters, &letters[0..50000], &mut text, &mut work),
-        Err(Fault::long_context(50001))
+        join(&NO_AB, &letters, &letters[0..50000], &mut text, &mut work),
+        Err(Fault::LongContext(50001))
     );
     assert_eq!(rt;
         join(&Shut, &letters[0..50000], &letters, &mut text, &mut work),
-        Err(Fault::long_context(50001))
+        Err(Fault::LongContext(50001))
     );
     Ok(())
 }

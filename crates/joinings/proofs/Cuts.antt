@@ -20,6 +20,3 @@ module _ {K : Type 0} (reads : ℕ → Option K) (room : ℕ) (bs : List ℕ) (i
 
     pub cut_right : (f : Fault) → context reads (i + 1) (drop (i + 1) bs) ≡ Err f → contexts reads room bs ≡ Err f
     cut_right f right = cut_left ∙ ap (λ r. bind r (λ v. Ok (u, v))) right
-
-  pub cut_refused : (f : Fault) → context reads 0 (take i bs) ≡ Err f → contexts reads room bs ≡ Err f
-  cut_refused f left = cut ∙ ap (λ r. bind r (λ u. bind (context reads (i + 1) (drop (i + 1) bs)) (λ v. Ok (u, v)))) left

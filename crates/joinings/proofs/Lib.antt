@@ -2,4 +2,3 @@ mod Cuts
 mod Heads
 mod Saying
 mod Spelt
-mod Texts

@@ -6,17 +6,14 @@
 --                            with no `?` breaks the rules of the file, then the table can be too short, and then the
 --                            first byte that is no letter is refused
 use Rattle.std.specs.Prelude.{ℕ, ◌+◌, ◌-◌, cond, List, length, take, drop, Some, None, Ok, Err, Option, Result, ◌==◌, nat_lt}
+use Rattle.std.specs.List.{position}
 use Rattle.faults.specs.declared.Fault.{Fault}
 use Rattle.faults.specs.Causes.{no_letter, short_work, broken_file}
 use Rattle.texts.specs.Texts.{stray, spelled}
 use Rattle.stations.specs.Stations.{bind}
 
--- a byte other than `?`
-abbrev pub known : ℕ → Option ℕ
-known b = cond (b == 63) None (Some b)
-
 abbrev pub gap : List ℕ → Option ℕ
-gap bs = stray known bs
+gap bs = position (λ b. b == 63) bs
 
 abbrev pub unless_at : {T : Type 0} → ℕ → Option ℕ → T → Result T Fault
 unless_at from None x = Ok x

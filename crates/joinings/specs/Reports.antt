@@ -9,7 +9,7 @@ use Rattle.std.specs.Prelude.{ℕ, List, [], ◌∷◌, ◌++◌, map, length, c
 use Rattle.models.specs.Alphabet.{Alphabet}
 use Rattle.pages.specs.Pages.{labelled}
 use Rattle.stations.specs.declared.Kind.{Kind}
-use Rattle.headings.specs.Headings.{kind_line, limit_line, automaton_line}
+use Rattle.headings.specs.Headings.{heading_lines, automaton_line}
 use Rattle.joinings.specs.Findings.{Found, said_of}
 use Rattle.joinings.specs.declared.report.Report.{Report}
 
@@ -43,7 +43,7 @@ answer_of k A printed n r f = record {
 }
 
 abbrev pub answered : {K : Type 0} → Alphabet K → (ℕ → ℕ) → Report K → Answer
-answered A printed r = answer_of r.kind A printed r.patterns r.limit (said_of r.finding)
+answered A printed r = answer_of r.heading.kind A printed r.heading.patterns r.heading.limit (said_of r.finding)
 
 -- the contexts' letters, the overlap taken, the letters filled in, the text's length, and the text
 abbrev pub joined_lines : ℕ → ℕ → ℕ → ℕ → List ℕ → List ℕ
@@ -53,5 +53,4 @@ joined_lines left right overlap filled text =
 
 abbrev pub shown : Answer → List ℕ
 shown a =
-    kind_line a.kind ++ (labelled (codes "patterns: ") a.patterns (10 ∷ []) ++ (limit_line a.limit ++ (automaton_line a.states a.memory
-    ++ joined_lines a.left a.right a.overlap a.filled a.text)))
+    heading_lines a.kind a.patterns a.limit ++ (automaton_line a.states a.memory ++ joined_lines a.left a.right a.overlap a.filled a.text)

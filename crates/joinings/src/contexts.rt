@@ -4,6 +4,7 @@ ghost use Rattle.texts.specs.Texts.{reading, stray, spelled};
 ghost use Rattle.joinings.specs.Contexts.{gap as gap_in, context as context_of, contexts as contexts_of};
 
 use faults::Fault;
+use files::GAP;
 use letters::{Letter, Printable};
 
 // Two contexts, as parts of a lent table of letters.
@@ -18,16 +19,11 @@ fn gap(content: &[u8]) -> Option<usize>
     ensures place { result ≡ gap_in content.now }
     ensures within { elim result [ Some i ↦ i < length content.now | None ↦ Unit {0} ] }
 {
-    for (i, b) in content.iter().enumerate() {
-        if *b == b'?' {
-            return Some(i);
-        }
-    }
-    None
+    content.iter().position(|b| *b == GAP)
 }
 
 // Writes the letters that the bytes read as at the front of `table`, up to the first byte that is no letter; answers
-// that byte's place.
+// that byte's place. The table is written by index, since what is written through `iter_mut` is not known afterwards.
 fn spell<L: Printable>(bytes: &[u8], table: &mut [L]) -> Option<usize>
     requires { length bytes.now ≤ length table.old }
     ensures place { result ≡ stray (reading L.Letter.alphabet L.Printable.parsed) bytes.now }
@@ -53,7 +49,7 @@ fn context<'a, L: Printable>(
     ensures { elim result [ Ok s ↦ context_of (reading L.Letter.alphabet L.Printable.parsed) from bytes.now ≡ Ok s.now | Err f ↦ context_of (reading L.Letter.alphabet L.Printable.parsed) from bytes.now ≡ Err f ] }
 {
     match spell(bytes, table) {
-        Some(place) => Err(Fault::no_letter(from + place)),
+        Some(place) => Err(Fault::NoLetter(from + place)),
         None => Ok(&table[0..bytes.len()]),
     }
 }
@@ -66,11 +62,11 @@ pub fn read_contexts<'a, L: Printable>(
     ensures { elim result [ Ok c ↦ contexts_of (reading L.Letter.alphabet L.Printable.parsed) (length table.old) content.now ≡ Ok (c.left.now, c.right.now) | Err f ↦ contexts_of (reading L.Letter.alphabet L.Printable.parsed) (length table.old) content.now ≡ Err f ] }
 {
     let Some(at) = gap(content) else {
-        return Err(Fault::broken_file());
+        return Err(Fault::BrokenFile);
     };
     let needed = content.len() - 1;
     if table.len() < needed {
-        return Err(Fault::short_work(needed));
+        return Err(Fault::ShortWork(needed));
     }
     let (front, back) = table.split_at_mut(at);
     let left = context(&content[0..at], 0, front)?;

@@ -1,9 +1,6 @@
 // What is found of two contexts.
-ghost use Rattle.std.specs.Prelude.{◌≡◌, ◌*◌, length, if◌then◌else◌, Err, nat_le};
-ghost use Rattle.faults.specs.Causes.{large_pair};
-ghost use Rattle.pairlaw.specs.Pairs.{pair_model};
+ghost use Rattle.std.specs.Prelude.{◌≡◌, length};
 ghost use Rattle.texts.specs.Texts.{reading};
-ghost use Rattle.listings.specs.Listings.{limited};
 ghost use Rattle.joinings.specs.Findings.{said, joining, settled};
 
 use crate::contexts::{Contexts, read_contexts};
@@ -11,8 +8,7 @@ use automata::Automaton;
 use faults::Fault;
 use joins::join;
 use letters::{Letter, Printable};
-use pairs::Pair;
-use runs::Run;
+use listings::Limited;
 
 // What came of two contexts: the automaton's count of states and its memory, the letters of the contexts, the overlap
 // taken, the letters filled in, and the joined text as a part of the text table.
@@ -49,39 +45,6 @@ fn join_by<'a, S: Automaton>(
     })
 }
 
-// Joins the contexts by two automata at once.
-fn join_by_both<'a, P: Automaton + Drop, Q: Automaton<Kind = P::Kind> + Drop>(
-    left: P,
-    right: Q,
-    contexts: Contexts<'_, P::Kind>,
-    text: &'a mut [P::Kind],
-    work: &mut [u16],
-) -> Result<Finding<'a, P::Kind>, Fault>
-    ensures { said result ≡ (if nat_le ((P.Automaton.model left).count * (Q.Automaton.model right).count) 4096 then joining P.Kind.Letter.alphabet (pair_model (P.Automaton.model left) (Q.Automaton.model right)) (length text.old) (length work.old) contexts.entry.left.now contexts.entry.right.now else Err (large_pair ((P.Automaton.model left).count * (Q.Automaton.model right).count))) }
-{
-    let pair = Pair::new(left, right)?;
-    join_by(&pair, contexts, text, work)
-}
-
-// Joins the contexts by `automaton`, and by the run automaton too where there is a limit.
-fn join_limited<'a, P: Automaton + Drop>(
-    automaton: P,
-    limit: Option<u16>,
-    contexts: Contexts<'_, P::Kind>,
-    text: &'a mut [P::Kind],
-    work: &mut [u16],
-) -> Result<Finding<'a, P::Kind>, Fault>
-    ensures { said result ≡ limited (P.model automaton) P.Kind.Letter.alphabet limit (λ m. joining P.Kind.Letter.alphabet m (length text.old) (length work.old) contexts.entry.left.now contexts.entry.right.now) }
-{
-    match limit {
-        Some(r) => {
-            let run = Run::<P::Kind>::new(r)?;
-            join_by_both(automaton, run, contexts, text, work)
-        }
-        None => join_by(&automaton, contexts, text, work),
-    }
-}
-
 // Judges a trace line: its contexts, the run limit, the pair, and then the join.
 pub fn settle<'a, P: Automaton + Drop>(
     automaton: P,
@@ -96,5 +59,8 @@ where
     ensures { said result ≡ settled P.Kind.Letter.alphabet (reading P.Kind.Letter.alphabet P.Kind.Printable.parsed) (length letters.old) (length text.old) (length work.old) (P.model automaton) limit content.now }
 {
     let contexts = read_contexts(content, letters)?;
-    join_limited(automaton, limit, contexts, text, work)
+    match Limited::new(automaton, limit)? {
+        Limited::Alone(automaton) => join_by(&automaton, contexts, text, work),
+        Limited::Both(pair) => join_by(&pair, contexts, text, work),
+    }
 }

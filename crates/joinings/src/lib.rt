@@ -8,5 +8,5 @@ pub mod report;
 
 pub use contexts::Contexts;
 pub use finding::Finding;
-pub use outcome::{Desk, Printed, join_file};
+pub use outcome::{Desk, Desks, join_file};
 pub use report::Report;

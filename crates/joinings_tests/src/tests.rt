@@ -1,6 +1,8 @@
-use joinings::{Desk, Printed, join_file};
+use joinings::{Desk, Desks, join_file};
+use lent::LentList;
 use letters::Two;
 use lists::Record;
+use pages::Printed;
 
 // Joins by a file of the two-letter kind, on a table for 16 letters of contexts and a text table of 8.
 fn run(input: &[u8], out: &mut [u8]) -> Printed {
@@ -11,19 +13,23 @@ fn run(input: &[u8], out: &mut [u8]) -> Printed {
     let mut work = [0; 128];
     join_file(
         input,
-        &mut records,
-        &mut words,
-        Desk {
-            letters: &mut letters,
-            text: &mut text,
+        &mut LentList {
+            records: &mut records,
+            words: &mut words,
         },
-        Desk {
-            letters: &mut [],
-            text: &mut [],
-        },
-        Desk {
-            letters: &mut [],
-            text: &mut [],
+        &mut Desks {
+            two: Desk {
+                letters: &mut letters,
+                text: &mut text,
+            },
+            trend: Desk {
+                letters: &mut [],
+                text: &mut [],
+            },
+            seepage: Desk {
+                letters: &mut [],
+                text: &mut [],
+            },
         },
         &mut work,
         out,
@@ -34,7 +40,7 @@ fn run(input: &[u8], out: &mut [u8]) -> Printed {
 fn joined_by_a_filling(rt: HostRuntime) {
     let mut out = [b'.'; 160];
     let printed = run(b"LA\n!bbbb\n!aaba\n!abba\n>aab?aba\n; done", &mut out);
-    assert!(rt; printed.joined);
+    assert!(rt; printed.done);
     assert_eq!(rt; printed.length, 142);
     assert_eq!(rt;
         &out[0..143],
@@ -46,7 +52,7 @@ fn joined_by_a_filling(rt: HostRuntime) {
 fn joined_by_an_overlap(rt: HostRuntime) {
     let mut out = [b'.'; 160];
     let printed = run(b"LA\nk   9\nr   2\n>ab?ba\n", &mut out);
-    assert!(rt; printed.joined);
+    assert!(rt; printed.done);
     assert_eq!(rt; printed.length, 134);
     assert_eq!(rt;
         &out[0..135],
@@ -79,7 +85,7 @@ fn refused(rt: HostRuntime) {
     ] {
         let mut out = [b'.'; 20];
         let printed = run(input, &mut out);
-        assert!(rt; !printed.joined);
+        assert!(rt; !printed.done);
         assert_eq!(rt; printed.length, 19);
         assert_eq!(rt; &out[0..19], line);
     }

@@ -1,6 +1,6 @@
 -- The steps back along the parents. Assumes nothing.
 use Rattle.std.proofs.Common.{◌≡◌, ℕ, zero, suc, ◌+◌, ◌-◌, ◌<◌, ◌≤◌, Bool, true, List, [], ◌∷◌, ◌++◌, length, drop, set, is_some, Some, None, Option, sym, refl, ap, ◌∙◌, arith}
-use Rattle.std.proofs.lemmas.List.{append_assoc, append-nil, length-append, length_push, length-set, drop-set, drop_all}
+use Rattle.std.proofs.lemmas.List.{append_assoc, length-append, length_push, length-set, drop-set}
 use Rattle.std.proofs.lemmas.Bool.{false≢true}
 use Rattle.models.specs.Automaton.{Model}
 use Rattle.joinlaw.specs.Words.{listed}
@@ -65,22 +65,10 @@ module _ {K : Type 0} (pick : ℕ → Option K) (p l : ℕ → ℕ) (place : ℕ
             ∙ ap (λ w. spelling pick p l (p at) ++ w) (ap (λ i. x ∷ drop i out) (sym one) ∙ sym (drop-set out (left - 1) x (omega arith)));
       }
 
-  pub spelled-start : (out : List K) → length out ≡ length (numbers p l place) → Spelled pick p l place place (length out) out
-  spelled-start out e = record {
-    within = omega arith;
-    left_is = e;
-    fits = omega arith;
-    whole = sym (ap (λ w. spelling pick p l place ++ w) (drop_all (length out) out (omega arith)) ∙ append-nil (spelling pick p l place));
-  }
-
-  pub spelled-some : (at left : ℕ) (out : List K) → Spelled pick p l place at left out → 0 < at → 1 ≤ left
-  spelled-some at left out s some = let is = s.left_is in let n = length-numbers p l place traced.earlier at some s.within in omega arith
-
-  pub spelled_end : (at left : ℕ) (out : List K) → Spelled pick p l place at left out → at ≤ 0 → out ≡ spelling pick p l place
-  spelled_end at left out s none =
-      let at_first : at ≡ 0 = omega arith in
-      let left-none : left ≡ 0 = s.left_is ∙ ap (λ i. length (numbers p l i)) at_first in
-      sym (s.whole ∙ ap (λ i. spelling pick p l i ++ drop left out) at_first ∙ ap (λ i. drop i out) left-none)
+  -- where letters are left to be written, the first place is not reached yet
+  pub spelled-on : (at left : ℕ) (out : List K) → Spelled pick p l place at left out → 0 < left → 0 < at
+  spelled-on zero left out s some = absurd (omega (arith, s.left_is))
+  spelled-on (suc at) left out s some = omega arith
 
   -- the letter of a number is there
   pub letter-some : (at : ℕ) → 0 < at → at ≤ place → pick (l at) ≡ None → ⊥

@@ -1,9 +1,9 @@
 -- The start of the search, and its turns from state to state. Assumes nothing.
-use Rattle.std.proofs.Common.{◌≡◌, ℕ, zero, suc, ◌+◌, ◌<◌, Bool, true, List, length, get_or, set, replicate, Some, sym, refl, ap, ◌∙◌, inl, inr, ⊎_elim, arith}
+use Rattle.std.proofs.Common.{◌≡◌, ℕ, zero, suc, ◌+◌, ◌<◌, List, length, get_or, set, replicate, Some, sym, refl, ap, ◌∙◌, inl, inr, ⊎_elim, arith}
 use Rattle.std.proofs.lemmas.List.{get_or-set_same, get_or-set_other, get_or-replicate, length-replicate}
 use Rattle.std.proofs.lemmas.Bool.{cases_lt, cases_eq}
 use Rattle.models.specs.Automaton.{Next}
-use Rattle.joins.specs.Queue.{by, zeros, Paused, Going, Goalless}
+use Rattle.joins.specs.Queue.{by, zeros, Paused, Going}
 use Rattle.joins.proofs.Pushes.{zeros_set}
 
 zeros-replicate : (n : ℕ) → zeros (replicate n 0) ≡ n
@@ -42,16 +42,6 @@ paused_start f start n qs p l h k =
     }
 
 module _ (f : Next ℕ) (start n head tail : ℕ) (seen : List ℕ) (q p l : ℕ → ℕ) where
-  -- the first letter of a state is next
-  pub paused_going : Paused f start n head tail seen q p l → head < tail → Going f start n head tail 0 seen q p l
-  paused_going a h = record {
-    searched = a.searched;
-    tried = λ d u t e. absurd (omega arith);
-    latest = λ i pos t. inl (a.latest i pos t);
-    marked = a.marked;
-    here = h;
-  }
-
   -- all letters of a state are done
   pub going_paused : (c : ℕ) → Going f start n head tail c seen q p l → ((d u : ℕ) → f (q head) d ≡ Some u → d < c) → Paused f start n (head + 1) tail seen q p l
   going_paused c g all =
@@ -82,10 +72,3 @@ module _ (f : Next ℕ) (start n head tail : ℕ) (seen : List ℕ) (q p l : ℕ
         latest = λ i pos t. ⊎_elim (λ x. omega arith) (λ x. let y = x.0 in omega arith) (g.latest i pos t);
         marked = g.marked;
       }
-
--- a queue that keeps its places up to h keeps them goalless
-pub goalless_kept : (goal : ℕ → Bool) (h : ℕ) (q q' : ℕ → ℕ) → ((i : ℕ) → i < h → q' i ≡ q i) → Goalless goal h q → Goalless goal h q'
-goalless_kept goal h q q' kept none i t r = none i t (ap goal (sym (kept i t)) ∙ r)
-
-pub goalless_more : (goal : ℕ → Bool) (h : ℕ) (q : ℕ → ℕ) → Goalless goal h q → (goal (q h) ≡ true → ⊥) → Goalless goal (h + 1) q
-goalless_more goal h q none not-here i t r = ⊎_elim (λ lt. none i lt r) (λ ge. not-here (ap (λ k. goal (q k)) (let z : h ≡ i = omega arith in z) ∙ r)) (cases_lt i h)

@@ -4,29 +4,21 @@ ghost use Rattle.joinlaw.specs.Laws.{FillingLaw, JoinLaw, JoinOnce, NextRowLaw};
 use letters::Letter;
 
 // The filling is the least string that fills, over any letters that may be filled in.
-pub fn filling_is_least<K: Letter>() -> u8
+pub fn filling_is_least<K: Letter>()
     ensures { FillingLaw K.alphabet }
-{
-    0
-}
+{}
 
 // The join by overlap and filling is the least string that joins, and there is none exactly where no string joins.
-pub fn join_is_least<K: Letter>() -> u8
+pub fn join_is_least<K: Letter>()
     ensures { JoinLaw K.alphabet }
-{
-    0
-}
+{}
 
 // The least string that joins is the one that overlap and filling give.
-pub fn join_is_the_one<K: Letter>() -> u8
+pub fn join_is_the_one<K: Letter>()
     ensures { JoinOnce K.alphabet }
-{
-    0
-}
+{}
 
 // The row from the last window of a text to the next is the least that continues the text.
-pub fn next_row_is_least<K: Letter>() -> u8
+pub fn next_row_is_least<K: Letter>()
     ensures { NextRowLaw K.alphabet }
-{
-    0
-}
+{}

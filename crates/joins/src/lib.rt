@@ -6,13 +6,14 @@ pub mod contexts;
 pub mod laws;
 pub mod marks;
 mod overlaps;
-pub mod rows;
-mod search;
-mod spell;
+mod rows;
+pub mod search;
+pub mod trails;
 pub mod ways;
 
 pub use answers::Joined;
 pub use contexts::join;
 pub use marks::Marks;
-pub use rows::{find, write};
+pub use search::Search;
+pub use trails::Trail;
 pub use ways::Way;

@@ -5,19 +5,11 @@ ghost use Rattle.joinlaw.specs.Bridges.{same as same_of, overlap as overlap_of};
 use automata::{Automaton, walk};
 use letters::Letter;
 
-// Whether two strings are the same, letter by letter.
+// Whether two strings are the same, letter by letter. Letters are compared by number, since they need no `Eq`.
 fn same<K: Letter>(a: &[K], b: &[K]) -> bool
     ensures { result ≡ same_of K.alphabet.number a.now b.now }
 {
-    if a.len() != b.len() {
-        return false;
-    }
-    for (i, x) in a.iter().enumerate() {
-        if x.number() != b[i].number() {
-            return false;
-        }
-    }
-    true
+    a.len() == b.len() && a.iter().zip(b).all(|(x, y)| x.number() == y.number())
 }
 
 // The largest overlap of at most `most` letters after which the rest of `right` can be walked on from `state`, the
@@ -32,14 +24,12 @@ pub(crate) fn overlap<S: Automaton>(
     requires { (most ≤ length left.now) × (most ≤ length right.now) }
     ensures { result ≡ overlap_of S.Kind.Letter.alphabet (S.model automaton.now) state left.now right.now most }
 {
-    let mut shared = most;
-    while shared > 0 {
+    for shared in (1..=most).rev() {
         if same(&left[left.len() - shared..], &right[0..shared])
             && walk(automaton, state, &right[shared..]).is_some()
         {
             return Some(shared);
         }
-        shared -= 1;
     }
     None
 }

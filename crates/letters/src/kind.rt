@@ -2,18 +2,26 @@
 ghost use Rattle.std.specs.Prelude.{◌≡◌, ℕ, ◌<◌, ◌≤◌, Some, None, Option};
 ghost use Rattle.models.specs.Alphabet.{Alphabet, Numbered, lettered};
 
-// A kind of letters: a value of the type is one letter.
+// A kind of letters: a value of the type is one letter. Its numbers and bytes are the kind's own table, both ways; a `From`
+// and a `TryFrom` beside them would say it twice.
 pub trait Letter: Copy {
     // How many letters there are, 1 to 32.
     const LETTERS: u8;
+
+    ghost LETTERS: { ℕ };
 
     ghost alphabet: { Alphabet Self };
 
     ghost numbered: { Numbered alphabet };
 
+    ghost sized: { LETTERS ≡ alphabet.size };
+
     // The count of letters.
     fn count() -> u8
-        ensures { result ≡ alphabet.size };
+        ensures { result ≡ alphabet.size }
+    {
+        Self::LETTERS
+    }
 
     // The letter's number, from 0 to one below the count.
     fn number(self) -> u8

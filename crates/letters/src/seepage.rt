@@ -1,6 +1,6 @@
 // Seepage: a flow class, and whether the water is clear or cloudy.
 ghost use Rattle.letters.specs.Seepages.{seepage_alphabet, seepage_numbered, seepage_printed, seepage_parsed};
-ghost use Rattle.std.proofs.Common.{rules};
+ghost use Rattle.std.proofs.Common.{rules, refl};
 
 use crate::kind::{Letter, Printable};
 
@@ -22,22 +22,16 @@ pub struct Seepage {
 impl Letter for Seepage {
     const LETTERS: u8 = 8;
 
+    ghost LETTERS = { 8 };
+
     ghost alphabet = { seepage_alphabet };
 
     ghost numbered = { seepage_numbered };
 
-    fn count() -> u8 {
-        Self::LETTERS
-    }
+    ghost sized = { refl };
 
     fn number(self) -> u8 {
-        let flow = match self.flow {
-            Flow::Zero => 0,
-            Flow::One => 1,
-            Flow::Two => 2,
-            Flow::Three => 3,
-        };
-        if self.cloudy { 2 * flow + 1 } else { 2 * flow }
+        2 * self.flow as u8 + self.cloudy as u8
     }
 
     fn from_number(n: u8) -> Option<Seepage> {

@@ -1,6 +1,6 @@
 // One piezometer: the trend of its level over an interval, or a scale mark.
 ghost use Rattle.letters.specs.Trends.{trend_alphabet, trend_numbered, trend_printed, trend_parsed};
-ghost use Rattle.std.proofs.Common.{rules};
+ghost use Rattle.std.proofs.Common.{rules, refl};
 
 use crate::kind::{Letter, Printable};
 
@@ -18,23 +18,16 @@ pub enum Trend {
 impl Letter for Trend {
     const LETTERS: u8 = 6;
 
+    ghost LETTERS = { 6 };
+
     ghost alphabet = { trend_alphabet };
 
     ghost numbered = { trend_numbered };
 
-    fn count() -> u8 {
-        Self::LETTERS
-    }
+    ghost sized = { refl };
 
     fn number(self) -> u8 {
-        match self {
-            Trend::Steady => 0,
-            Trend::Rise => 1,
-            Trend::Fall => 2,
-            Trend::FastRise => 3,
-            Trend::FastFall => 4,
-            Trend::ScaleMark => 5,
-        }
+        self as u8
     }
 
     fn from_number(n: u8) -> Option<Trend> {

@@ -1,6 +1,6 @@
 // The two-letter kind of the worked examples: `a` and `b`.
 ghost use Rattle.letters.specs.Two.{two_alphabet, two_numbered, two_printed, two_parsed};
-ghost use Rattle.std.proofs.Common.{rules};
+ghost use Rattle.std.proofs.Common.{rules, refl};
 
 use crate::kind::{Letter, Printable};
 
@@ -13,19 +13,16 @@ pub enum Two {
 impl Letter for Two {
     const LETTERS: u8 = 2;
 
+    ghost LETTERS = { 2 };
+
     ghost alphabet = { two_alphabet };
 
     ghost numbered = { two_numbered };
 
-    fn count() -> u8 {
-        Self::LETTERS
-    }
+    ghost sized = { refl };
 
     fn number(self) -> u8 {
-        match self {
-            Two::A => 0,
-            Two::B => 1,
-        }
+        self as u8
     }
 
     fn from_number(n: u8) -> Option<Two> {

@@ -1,3 +1,4 @@
 pub mod Listings
 pub mod Reads
 pub mod Bodies
+pub mod Limits

@@ -9,10 +9,13 @@ ghost use Rattle.texts.specs.Texts.{reading};
 ghost use Rattle.listings.specs.Listings.{listed, reached, fresh};
 ghost use Rattle.listings.specs.Reads.{ReadAs, LeftAs};
 
+pub mod limits;
+
 use faults::Fault;
 use files::refusals::at_line;
 use files::{Line, Lines, Refusal};
 use letters::{Letter, Printable};
+pub use limits::Limited;
 use lists::Builder;
 use stations::{Form, Part, early};
 
@@ -24,7 +27,7 @@ pub struct Preface<'a> {
 }
 
 // What the next line hands on.
-fn next_part<'a>(form: &mut Form, line: Result<Line<'a>, Fault>) -> Result<Part<'a>, Fault>
+fn next_part<'a>(form: &mut Form, line: Result<Line<'a>, Fault>) -> Result<Option<Part<'a>>, Fault>
     ensures { elim result [ Ok p ↦ bind (meant line.entry) (take_line form.old) ≡ Ok (form.new, handed p) | Err f ↦ bind (meant line.entry) (take_line form.old) ≡ Err f ] }
 {
     form.take(line?)
@@ -45,9 +48,9 @@ pub fn read<'a, L: Printable>(
     let mut form = Form::new();
     while let Some(line) = lines.next_line() {
         match at_line(next_part(&mut form, line), lines.number())? {
-            Part::Nothing => {}
-            Part::Pattern(bytes) => at_line(list.add_bytes(bytes), lines.number())?,
-            Part::Trace(trace) => return Ok(Preface { form, trace }),
+            None => {}
+            Some(Part::Pattern(bytes)) => at_line(list.add_bytes(bytes), lines.number())?,
+            Some(Part::Trace(trace)) => return Ok(Preface { form, trace }),
         }
     }
     Err(early())

@@ -2,7 +2,7 @@
 use Rattle.std.proofs.Common.{◌≡◌, ℕ, ◌+◌, ◌*◌, ◌≤◌, ltb, leb, List, ◌++◌, length, Some, None, Err, Option, Result, sym, refl, ap, ◌∙◌, arith}
 use Rattle.std.proofs.lemmas.Bool.{cond_both, cond-false, le-ltb}
 use Rattle.faults.specs.declared.Fault.{Fault}
-use Rattle.faults.specs.Causes.{no_string, short_text}
+use Rattle.faults.specs.Causes.{number_of, no_string, short_text}
 use Rattle.models.specs.Alphabet.{Alphabet}
 use Rattle.models.specs.Automaton.{Model, Passes, walk, stopped}
 use Rattle.models.proofs.Walks.{stops-none}
@@ -45,7 +45,7 @@ module _ {K : Type 0} (A : Alphabet K) (m : Model K) (ps : List (List K)) (means
   unjoined : (o : Option (Bridge K)) (room : ℕ) → FreeIs A ps u v o → appended o v (length u) room ≡ Err (no_string 0) → (s : List K) → Free ps u v s → ⊥
   unjoined (Some b) room is =
       cond_both (leb (length u + length (row b v)) room) _ _ (λ (r : Result Joined Fault). r ≡ Err (no_string 0) → (s : List K) → Free ps u v s → ⊥)
-      (λ _ e. absurd (let z : ◌≡◌ {A = ℕ} 0 1 = cc in omega arith)) (λ _ e. let same : short_text (length u + length (row b v)) ≡ no_string 0 = cc in absurd (let nine : ◌≡◌ {A = ℕ} 9 8 = ap (λ (f : Fault). f.number) same in omega arith))
+      (λ _ e. absurd (let z : ◌≡◌ {A = ℕ} 0 1 = cc in omega arith)) (λ _ e. let same : short_text (length u + length (row b v)) ≡ no_string 0 = cc in absurd (let nine : ◌≡◌ {A = ℕ} 9 8 = ap number_of same in omega arith))
   unjoined None room is = λ e. is
 
   none_joins : (o : Option (Bridge K)) (room : ℕ) → FreeIs A ps u v o → ((s : List K) → Free ps u v s → ⊥) → appended o v (length u) room ≡ Err (no_string 0)

@@ -4,8 +4,6 @@
 ghost use Rattle.listlaw.specs.Standing.{WordsStand};
 
 // The computed definitions say what they are named for.
-pub fn words_stand() -> u8
+pub fn words_stand()
     ensures { WordsStand }
-{
-    0
-}
+{}

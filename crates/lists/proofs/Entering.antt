@@ -1,38 +1,58 @@
 -- One state more, and the prefixes of a word one by one. Assumes nothing.
-use Rattle.std.proofs.Common.{◌≡◌, ℕ, ◌+◌, ◌-◌, ◌<◌, ◌≤◌, true, false, ◌≢◌, ◌⊎◌, List, [], ◌∷◌, ◌++◌, length, get_or, take, set, sym, refl, ap, ◌∙◌, subst, inl, inr, ⊎_elim, arith}
-use Rattle.std.proofs.lemmas.List.{take_more, get_or_append_left, get_or_push, get_or-set_same, get_or-set_other, length_push, length-take-le}
+use Rattle.std.proofs.Common.{◌≡◌, ℕ, ◌+◌, ◌-◌, ◌<◌, ◌≤◌, true, false, ◌≢◌, ◌⊎◌, List, [], ◌∷◌, ◌++◌, length, get_or, take, set, sym, refl, ap, ◌∙◌, subst, inl, inr, ⊎_elim, arith, length-set}
+use Rattle.std.proofs.lemmas.List.{take_more, get_or-take, get_or_append_left, get_or_push, get_or-set_same, get_or-set_other, length_push, length-take-le}
 use Rattle.std.proofs.lemmas.Bool.{cases_lt}
 use Rattle.listlaw.specs.Patterns.{Word, member, gather, fronts, Places, with}
 use Rattle.listlaw.proofs.Gathering.{places_push, with_old, with-new}
 use Rattle.listlaw.proofs.States.{gather-more, gather_fewer}
 use Rattle.lists.specs.declared.record.Record.{Record}
 use Rattle.lists.specs.Names.{blank, rec, names, Below, Lengths, Trie, Under, Fresh, Reached, Entered}
-use Rattle.lists.proofs.Spelling.{length-names, names_push, names-first, place_of, child_state, child_none}
+use Rattle.lists.specs.declared.tree.Tree.{Tree}
+use Rattle.lists.specs.declared.word.Word.{Word as Given}
+use Rattle.lists.proofs.Children.{trie as trie_of}
+use Rattle.lists.proofs.Spelling.{count as count_of, names_push, names-first, place_of, child_state, child_none}
 
-module _ (ns : List Record) (used : ℕ) (fits : used ≤ length ns) (trie : Trie ns used) (under a : ℕ) where
+module _ (t : Tree) (under a : ℕ) where
+  abbrev ns : List Record
+  ns = t.records.now
+
+  abbrev used : ℕ
+  used = t.used
+
+  trie : Trie ns used
+  trie = trie_of t
+
   pub reach_old : (j : ℕ) → (0 < j) × (j < used) × ((rec ns j).parent ≡ under) × ((rec ns j).letter ≡ a) → Reached ns ns used under a j used
   reach_old j h =
-      let is = child_state ns used fits trie under a j h in
+      let is = child_state ns used trie under a j h in
       record {
-        trie = trie;
         inside = h.1;
         word = is;
-        states = sym (with_old (names ns used) (get_or (names ns used) under [] ++ (a ∷ [])) (place_of ns used fits trie j h.1 (get_or (names ns used) under [] ++ (a ∷ [])) is).0);
+        states = sym (with_old (names ns used) (get_or (names ns used) under [] ++ (a ∷ [])) (place_of ns used trie j h.1 (get_or (names ns used) under [] ++ (a ∷ [])) is).0);
         letters = λ n u l. u;
         fresh = (λ i h. refl, λ i ge lt. absurd (omega arith));
         grows = omega arith;
       }
 
-  module _ (lt : under < used) (none : (j : ℕ) → 0 < j → j < used → (rec ns j).parent ≡ under → (rec ns j).letter ≡ a → ⊥) (room : used < 512) (more : used < length ns) (n : Record)
+  pub reach_room : under < used → ((j : ℕ) → 0 < j → j < used → (rec ns j).parent ≡ under → (rec ns j).letter ≡ a → ⊥) → (member (names ns used) (get_or (names ns used) under [] ++ (a ∷ [])) ≡ false → used < 512) → used < 512
+  reach_room lt none space = space (child_none ns used trie under a lt none)
+
+  module _ (lt : under < used) (none : (j : ℕ) → 0 < j → j < used → (rec ns j).parent ≡ under → (rec ns j).letter ≡ a → ⊥) (space : member (names ns used) (get_or (names ns used) under [] ++ (a ∷ [])) ≡ false → used < 512) (far : 512 ≤ length ns) (n : Record)
       (up : n.parent ≡ under) (by : n.letter ≡ a) (deep : n.length ≡ length (get_or (names ns used) under []) + 1) (bare : n.ends ≡ 0) where
     new : member (names ns used) (get_or (names ns used) under [] ++ (a ∷ [])) ≡ false
-    new = child_none ns used fits trie under a lt none
+    new = child_none ns used trie under a lt none
+
+    room : used < 512
+    room = reach_room lt none space
+
+    more : used < length ns
+    more = omega (arith, room)
 
     pushed : names (set ns used n) (used + 1) ≡ names ns used ++ ((get_or (names ns used) under [] ++ (a ∷ [])) ∷ [])
     pushed = names_push ns used n trie.0 more ∙ ap (λ (w : Word). names ns used ++ (w ∷ [])) (ap (λ (i : ℕ). get_or (names ns used) i [] ++ (n.letter ∷ [])) up ∙ ap (λ (c : ℕ). get_or (names ns used) under [] ++ (c ∷ [])) by)
 
     long : length (names ns used) ≡ used
-    long = length-names ns used fits trie.0
+    long = count_of ns used trie
 
     kept : (i : ℕ) → i < used → rec (set ns used n) i ≡ rec ns i
     kept i h = let ne : i ≢ used = (λ e. omega arith) in get_or-set_other ns used i n blank ne
@@ -70,9 +90,11 @@ module _ (ns : List Record) (used : ℕ) (fits : used ≤ length ns) (trie : Tri
         (λ e. omega (arith, ap (λ (k : ℕ). (rec (set ns used n) k).letter) e, ap (λ (m : Record). m.letter) here))
         (at_new i h)
 
+    pub reach_trie : Trie (set ns used n) (used + 1)
+    reach_trie = (omega arith, omega (arith, room), below, lengths, subst Places (sym pushed) (places_push (names ns used) (get_or (names ns used) under [] ++ (a ∷ [])) trie.4 new), λ h. omega (arith, length-set ns used n))
+
     pub reach_new : Reached ns (set ns used n) used under a used (used + 1)
     reach_new = record {
-      trie = (omega arith, omega arith, below, lengths, subst Places (sym pushed) (places_push (names ns used) (get_or (names ns used) under [] ++ (a ∷ [])) trie.4 new));
       inside = omega arith;
       word = word-new;
       states = pushed ∙ sym (with-new (names ns used) (get_or (names ns used) under [] ++ (a ∷ [])) new);
@@ -81,24 +103,46 @@ module _ (ns : List Record) (used : ℕ) (fits : used ≤ length ns) (trie : Tri
       grows = omega arith;
     }
 
+-- the letters of a word but the last
+module _ (w front : Word) (is : front ≡ take (length w - 1) w) where
+  pub front_long : length front ≡ length w - 1
+  front_long = ap length is ∙ length-take-le (length w - 1) w (omega arith)
+
+  pub front_at : (k : ℕ) → k + 1 < length w → get_or front k 0 ≡ get_or w k 0
+  front_at k lt = ap (λ (v : Word). get_or v k 0) is ∙ get_or-take (length w - 1) w k 0 (omega arith)
+
+  pub front_push : (k : ℕ) → k + 1 < length w → {v : Word} → v ≡ take k w → v ++ (get_or front k 0 ∷ []) ≡ take (k + 1) w
+  front_push k lt {v} e = ap (λ (u : Word). u ++ (get_or front k 0 ∷ [])) e ∙ ap (λ (c : ℕ). take k w ++ (c ∷ [])) (front_at k lt) ∙ sym (take_more w k 0 (omega arith))
+
 fresh-more : (old ns more : List Record) (used count last : ℕ) → used ≤ count → Fresh old ns used count → Fresh ns more count last → Fresh old more used last
 fresh-more old ns more used count last le a b = (
   λ i h. b.0 i (omega arith) ∙ a.0 i h,
   λ i ge h. ⊎_elim (λ l. ap (λ (m : Record). m.ends) (b.0 i l) ∙ a.1 i ge l) (λ g. b.1 i g h) (cases_lt i count),
 )
 
-module _ (old : List Record) (used : ℕ) (fits : used ≤ length old) (trie : Trie old used) (w : Word) (some : 1 ≤ length w) where
-  root : member (names old used) [] ≡ true
-  root = (place_of old used fits trie 0 trie.0 [] (names-first old used)).0
+module _ (o : Tree) (word : Given) where
+  abbrev old : List Record
+  old = o.records.now
 
-  pub none-known : gather (names old used) (fronts (take (0 + 1) w)) ≡ names old used
-  none-known = gather-more (names old used) w 0 some ∙ with_old (names old used) [] root
+  abbrev before : ℕ
+  before = o.used
 
-  pub entered_none : Entered old old used w 0 0 used
+  abbrev w : Word
+  w = word.letters.now
+
+  known : Trie old before
+  known = trie_of o
+
+  root : member (names old before) [] ≡ true
+  root = (place_of old before known 0 known.0 [] (names-first old before)).0
+
+  pub none-known : gather (names old before) (fronts (take (0 + 1) w)) ≡ names old before
+  none-known = gather-more (names old before) w 0 word.some ∙ with_old (names old before) [] root
+
+  pub entered_none : Entered old old before w 0 0 before
   entered_none = record {
-    trie = trie;
-    inside = trie.0;
-    word = names-first old used;
+    inside = known.0;
+    word = names-first old before;
     states = sym none-known;
     letters = λ n u l. u;
     fresh = (λ i h. refl, λ i ge h. absurd (omega arith));
@@ -106,29 +150,31 @@ module _ (old : List Record) (used : ℕ) (fits : used ≤ length old) (trie : T
   }
 
   -- the next prefix
-  module _ (ns : List Record) (k under count : ℕ) (e : Entered old ns used w k under count) (lt : k + 1 < length w) where
-    pub next_word : get_or (names ns count) under [] ++ (get_or w k 0 ∷ []) ≡ take (k + 1) w
+  module _ (s : Tree) (k under : ℕ) (e : Entered o.records.now s.records.now o.used word.letters.now k under s.used) (lt : k + 1 < length word.letters.now) where
+    abbrev mid : List Record
+    mid = s.records.now
+
+    abbrev count : ℕ
+    count = s.used
+
+    pub next_word : get_or (names mid count) under [] ++ (get_or w k 0 ∷ []) ≡ take (k + 1) w
     next_word = ap (λ (v : Word). v ++ (get_or w k 0 ∷ [])) e.word ∙ sym (take_more w k 0 (omega arith))
 
-    gathered : with (names ns count) (get_or (names ns count) under [] ++ (get_or w k 0 ∷ [])) ≡ gather (names old used) (fronts (take (k + 1 + 1) w))
-    gathered = ap (with (names ns count)) next_word ∙ ap (λ (l : List Word). with l (take (k + 1) w)) e.states ∙ sym (gather-more (names old used) w (k + 1) lt)
+    gathered : with (names mid count) (get_or (names mid count) under [] ++ (get_or w k 0 ∷ [])) ≡ gather (names old before) (fronts (take (k + 1 + 1) w))
+    gathered = ap (with (names mid count)) next_word ∙ ap (λ (l : List Word). with l (take (k + 1) w)) e.states ∙ sym (gather-more (names old before) w (k + 1) lt)
 
-    pub next_depth : length (get_or (names ns count) under []) ≡ k
-    next_depth = ap length e.word ∙ length-take-le k w (omega arith)
+    pub next-room : length (gather (names old before) (fronts w)) ≤ 512 → member (names mid count) (get_or (names mid count) under [] ++ (get_or w k 0 ∷ [])) ≡ false → count < 512
+    next-room room new =
+        let long = count_of mid count (trie_of s) in
+        let v : Word = get_or (names mid count) under [] ++ (get_or w k 0 ∷ []) in
+        omega (arith, room, long, ap length (sym (with-new (names mid count) v new) ∙ gathered), length_push (names mid count) v, gather_fewer (names old before) w (k + 1 + 1) (length w - (k + 1 + 1)) (omega arith))
 
-    pub next-room : count ≤ length ns → length (gather (names old used) (fronts w)) ≤ 512 → member (names ns count) (get_or (names ns count) under [] ++ (get_or w k 0 ∷ [])) ≡ false → count < 512
-    next-room in' room new =
-        let long = length-names ns count in' e.trie.0 in
-        let v : Word = get_or (names ns count) under [] ++ (get_or w k 0 ∷ []) in
-        omega (arith, room, long, ap length (sym (with-new (names ns count) v new) ∙ gathered), length_push (names ns count) v, gather_fewer (names old used) w (k + 1 + 1) (length w - (k + 1 + 1)) (omega arith))
-
-    pub entered_more : (more : List Record) (at last : ℕ) → Reached ns more count under (get_or w k 0) at last → Entered old more used w (k + 1) at last
+    pub entered_more : (more : List Record) (at last : ℕ) → Reached mid more count under (get_or w k 0) at last → Entered old more before w (k + 1) at last
     entered_more more at last r = record {
-      trie = r.trie;
       inside = r.inside;
       word = r.word ∙ next_word;
       states = r.states ∙ gathered;
       letters = λ n u l. r.letters n (e.letters n u l) (l k (omega arith));
-      fresh = fresh-more old ns more used count last e.grows e.fresh r.fresh;
+      fresh = fresh-more old mid more before count last e.grows e.fresh r.fresh;
       grows = omega (arith, e.grows, r.grows);
     }

@@ -13,12 +13,16 @@ use Rattle.listlaw.proofs.States.{states_short, extent_above}
 use Rattle.listlaw.proofs.Suffixes.{longest-below}
 use Rattle.listlaw.proofs.Laws.{table_means}
 use Rattle.lists.specs.declared.record.Record.{Record}
-use Rattle.lists.specs.Names.{rec, names, Trie}
+use Rattle.lists.specs.Names.{rec, names}
 use Rattle.lists.specs.Lists.{bit, columns, Lists, Held}
-use Rattle.lists.specs.Taking.{Holding}
-use Rattle.lists.specs.Links.{Before, Shape, Endings}
+use Rattle.lists.specs.Links.{Before, Endings}
 use Rattle.lists.specs.Finished.{stop_at, goes_to, listed_model}
-use Rattle.lists.proofs.Spelling.{length-names}
+use Rattle.lists.specs.declared.builder.Builder.{Builder}
+use Rattle.lists.specs.declared.links.Links.{Links}
+use Rattle.lists.specs.Linked.{Linked, Ended, Kept}
+use Rattle.lists.specs.History.{Holds}
+use Rattle.lists.proofs.Children.{trie}
+use Rattle.lists.proofs.Spelling.{count}
 use Rattle.lists.proofs.Levels.{first_endings}
 
 hit-none : (t : Word) → hit [] t ≡ false
@@ -46,17 +50,25 @@ pub some-longest : (ns : List Record) (used taken longest : ℕ) → Held ns use
 some-longest ns used taken longest held h = ∥∥₁_elim held le_prop (λ b. omega (arith, b.1.extent, extent-some b.0 b.1.solid (omega (arith, b.1.count))))
 
 -- the tables as they were and as they are finished
-module _ (old ns : List Record) (words : List ℕ) (used taken longest' : ℕ) (some : 1 ≤ taken) (room : 512 ≤ length old) (trie : Trie old used)
-    (kept : names ns used ≡ names old used) (shape : Shape ns words used longest' 1)
-    (ends : (ps : List Word) → Endings old used 1 1 ps → Endings ns used longest' 1 ps) (ps : List Word) (lists : Lists old used taken longest' ps) where
+module _ (l done : Links) (taken longest' : ℕ) (some : 1 ≤ taken) (kept : Kept l done) (linked : Linked done longest' 1) (ended : (ps : List Word) → Ended l 1 1 ps → Ended done longest' 1 ps)
+    (ps : List Word) (lists : Lists l.tree.records.now l.tree.used taken longest' ps) where
+  abbrev ns : List Record
+  ns = done.tree.records.now
+
+  abbrev words : List ℕ
+  words = done.words.now
+
+  abbrev used : ℕ
+  used = done.tree.used
+
   endings : Endings ns used longest' 1 ps
-  endings = ends ps (first_endings old used (omega (arith, trie.1)) trie ps lists.names lists.solid (lists.marks room))
+  endings = ended ps (first_endings l.tree.records.now l.tree.used (trie l.tree) ps lists.names lists.solid (lists.marks l.room))
 
   spelt : names ns used ≡ states ps
-  spelt = kept ∙ lists.names
+  spelt = kept.1 ∙ lists.names
 
   long : length (names ns used) ≡ used
-  long = length-names ns used (omega (arith, shape.room, shape.trie.1)) shape.trie.0
+  long = count ns used (trie done.tree)
 
   all : (q : ℕ) → q < used → Before (names ns used) longest' 1 q
   all q l =
@@ -77,22 +89,23 @@ module _ (old ns : List Record) (words : List ℕ) (used taken longest' : ℕ) (
     strange = λ q a l h. ap (λ (b : Bool). cond b (cond (eqb taken 0) false (bit (rec ns q).ends a)) true) (le-ltb a (columns words) h);
     leads = λ q a l h.
         ap (λ (b : Bool). cond b 0 (get_or words (a * 512 + q) 0)) filled
-        ∙ shape.rows q a l h (all q l) ∙ ap (λ (ws : List Word). longest ws (get_or ws q [] ++ (a ∷ []))) spelt;
+        ∙ linked.rows q a l h (all q l) ∙ ap (λ (ws : List Word). longest ws (get_or ws q [] ++ (a ∷ []))) spelt;
   }
 
 -- what a list means once it is finished
-module _ {K : Type 0} (A : Alphabet K) (numbered : Numbered A) (n m : ℕ) (old : List Record) (first : List ℕ) (used taken longest' : ℕ) (ps : List (List K)) (holds : Holding A n m old first used taken longest' ps) where
-  pub count_held : taken ≡ length ps
+module _ {K : Type 0} (A : Alphabet K) (numbered : Numbered A) (n m : ℕ) (b : Builder K) (ps : List (List K)) (holds : Holds A n m b ps) where
+  pub count_held : b.taken ≡ length ps
   count_held = holds.lists.count ∙ length-map ps (map A.number)
 
-  pub empty_means : taken ≡ 0 → (ns : List Record) (words : List ℕ) → Means A (listed_model A.number ns words 1 32 0 0) ps
+  pub empty_means : b.taken ≡ 0 → (ns : List Record) (words : List ℕ) → Means A (listed_model A.number ns words 1 32 0 0) ps
   empty_means z ns words =
       let e : ps ≡ [] = nil_from_length ps (omega (arith, count_held)) in
       subst (Means A (listed_model A.number ns words 1 32 0 0)) (sym e)
       (table_means A numbered [] 1 32 (stop_at ns 32 0) (goes_to words 0) 0 numbered.few (empty_right ns words) refl)
 
-  pub finished_means : 1 ≤ taken → (ns : List Record) (words : List ℕ) → length words ≡ length first → Right (coded A ps) used (columns words) (stop_at ns (columns words) taken) (goes_to words taken) → Means A (listed_model A.number ns words used (columns words) taken (longest' - 1)) ps
-  finished_means some ns words same right =
+  pub finished_means : 1 ≤ b.taken → (now : ℕ) (ns : List Record) (words : List ℕ) → length words ≡ length b.words.now → Right (coded A ps) now (columns words) (stop_at ns (columns words) b.taken) (goes_to words b.taken)
+      → Means A (listed_model A.number ns words now (columns words) b.taken (b.longest - 1)) ps
+  finished_means some now ns words same right =
       let wide = holds.wide (omega (arith, count_held)) in
       let d = le-div A.size (length words) 512 (omega arith) (omega (arith, wide.1, holds.broad)) in
-      table_means A numbered ps used (columns words) (stop_at ns (columns words) taken) (goes_to words taken) (longest' - 1) (omega (arith, numbered.few)) right (ap (λ (k : ℕ). k - 1) holds.lists.extent)
+      table_means A numbered ps now (columns words) (stop_at ns (columns words) b.taken) (goes_to words b.taken) (b.longest - 1) (omega (arith, numbered.few)) right (ap (λ (k : ℕ). k - 1) holds.lists.extent)

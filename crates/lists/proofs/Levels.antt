@@ -1,11 +1,12 @@
 -- States in the order in which they are settled: by length, then by number. Assumes nothing.
-use Rattle.std.proofs.Common.{◌≡◌, ℕ, ◌+◌, ◌*◌, ◌<◌, ◌≤◌, Bool, true, false, ◌||◌, List, [], ◌∷◌, ◌++◌, length, get_or, sym, refl, ap, ◌∙◌, subst, inl, inr, ⊎_elim, arith}
+use Rattle.std.proofs.Common.{◌≡◌, ℕ, ◌+◌, ◌*◌, ◌<◌, ◌≤◌, Bool, true, ◌||◌, List, [], ◌∷◌, ◌++◌, length, get_or, sym, ap, ◌∙◌, subst, inl, inr, ⊎_elim, arith}
+use Rattle.std.proofs.Math.Bool.{or-false}
 use Rattle.std.proofs.lemmas.List.{nil_from_length}
 use Rattle.std.proofs.lemmas.Bool.{cases_lt}
 use Rattle.listlaw.specs.Patterns.{Word, member, states, hit, longest}
 use Rattle.listlaw.proofs.Members.{never}
 use Rattle.lists.specs.declared.record.Record.{Record}
-use Rattle.lists.specs.Names.{names, Trie, Under}
+use Rattle.lists.specs.Names.{names, Trie}
 use Rattle.lists.specs.Lists.{columns, Marks}
 use Rattle.lists.specs.Links.{Before, Shape, Endings, Planted}
 use Rattle.lists.proofs.Spelling.{names-first, place_of}
@@ -14,9 +15,6 @@ use Rattle.lists.proofs.Settling.{root_row}
 module _ (ns : List Record) (words : List ℕ) (used d i d' i' : ℕ) (back : (q : ℕ) → q < used → Before (names ns used) d' i' q → Before (names ns used) d i q) where
   pub shape_by : Shape ns words used d i → Shape ns words used d' i'
   shape_by s = record {
-    trie = s.trie;
-    room = s.room;
-    small = s.small;
     links = λ q pos l b. s.links q pos l (back q l b);
     rows = λ q a l h b. s.rows q a l h (back q l b);
   }
@@ -47,23 +45,20 @@ module _ (ws : List Word) where
   pub next_on : (d i : ℕ) → (q : ℕ) → Before ws d i q → Before ws (d + 1) 1 q
   next_on d i q b = ⊎_elim (λ h. inl (omega arith)) (λ h. inl (omega (arith, h.0))) b
 
-module _ (ns : List Record) (used : ℕ) (fits : used ≤ length ns) (trie : Trie ns used) where
+module _ (ns : List Record) (used : ℕ) (trie : Trie ns used) where
   -- before those of one letter stands the empty one alone
   pub first_only : (q : ℕ) → q < used → Before (names ns used) 1 1 q → q ≡ 0
   first_only q l b = ⊎_elim
       (λ h.
       let e : get_or (names ns used) q [] ≡ [] = nil_from_length (get_or (names ns used) q []) (omega arith) in
-      sym (place_of ns used fits trie q l [] e).1 ∙ (place_of ns used fits trie 0 trie.0 [] (names-first ns used)).1)
+      sym (place_of ns used trie q l [] e).1 ∙ (place_of ns used trie 0 trie.0 [] (names-first ns used)).1)
       (λ h. omega (arith, h.1))
       b
 
-  pub first_shape : (words mid last : List ℕ) → 512 ≤ length ns → Under (columns last) ns used → ((a : ℕ) → a < columns last → get_or mid (a * 512 + 0) 0 ≡ 0) → ((a : ℕ) → a < columns last → Planted ns mid last 0 used a) → Shape ns last used 1 1
-  first_shape words mid last room small none planted = record {
-    trie = trie;
-    room = room;
-    small = small;
+  pub first_shape : (words mid last : List ℕ) → ((a : ℕ) → a < columns last → get_or mid (a * 512 + 0) 0 ≡ 0) → ((a : ℕ) → a < columns last → Planted ns mid last 0 used a) → Shape ns last used 1 1
+  first_shape words mid last none planted = record {
     links = λ q pos l b. absurd (omega (arith, first_only q l b));
-    rows = λ q a l h b. subst (λ (n : ℕ). get_or last (a * 512 + n) 0 ≡ longest (names ns used) (get_or (names ns used) n [] ++ (a ∷ []))) (sym (first_only q l b)) (root_row ns used fits trie a mid last (none a h) (planted a h));
+    rows = λ q a l h b. subst (λ (n : ℕ). get_or last (a * 512 + n) 0 ≡ longest (names ns used) (get_or (names ns used) n [] ++ (a ∷ []))) (sym (first_only q l b)) (root_row ns used trie a mid last (none a h) (planted a h));
   }
 
   pub first_endings : (ps : List Word) → names ns used ≡ states ps → ((p : Word) → member ps p ≡ true → 1 ≤ length p) → Marks ns used ps → Endings ns used 1 1 ps
@@ -76,9 +71,5 @@ module _ (ns : List Record) (used : ℕ) (fits : used ≤ length ns) (trie : Tri
     left = λ q a l h b. marks q a l h;
   }
     where
-      or_false : (b : Bool) → b ≡ (b || false)
-      or_false true = refl
-      or_false false = refl
-
       alone : (a : ℕ) → member ps (a ∷ []) ≡ hit ps (a ∷ [])
-      alone a = or_false (member ps (a ∷ [])) ∙ ap (λ (b : Bool). member ps (a ∷ []) || b) (sym (never (member ps []) (λ m. omega (arith, solid [] m))))
+      alone a = sym (or-false (member ps (a ∷ []))) ∙ ap (λ (b : Bool). member ps (a ∷ []) || b) (sym (never (member ps []) (λ m. omega (arith, solid [] m))))

@@ -1,4 +1,5 @@
 mod Spelling
+mod Children
 mod Entering
 mod Bitwise
 mod Starting

@@ -1,6 +1,7 @@
 -- A pattern more: its prefixes are entered, and its end is marked. Assumes nothing.
 use Rattle.std.proofs.Common.{◌≡◌, ℕ, zero, suc, ◌+◌, ◌-◌, ◌^◌, ◌<◌, ◌≤◌, max, Bool, true, false, ◌||◌, eqb, List, [], ◌∷◌, ◌++◌, length, get_or, take, set, sym, refl, ap, ◌∙◌, subst, ⊎_elim, arith, length-set}
 use native.Mathlib.Decide.{ℕ_discrete}
+use Rattle.std.proofs.Math.Bool.{or-false}
 use Rattle.std.proofs.lemmas.List.{take_more, take_all, get_or-set_same, get_or-set_other, length_push, same_from_push}
 use Rattle.std.proofs.lemmas.Bool.{cases_lt, cases_Bool, eq-eqb, ne_eqb}
 use Rattle.listlaw.specs.Patterns.{Word, same, member, place, gather, fronts, states, Places}
@@ -10,7 +11,10 @@ use Rattle.listlaw.proofs.States.{states_push, states_fronted, extent_push}
 use Rattle.lists.specs.declared.record.Record.{Record}
 use Rattle.lists.specs.Names.{blank, rec, with_end, grow, names, Trie, Under, Entered}
 use Rattle.lists.specs.Lists.{bit, Lists}
-use Rattle.lists.proofs.Spelling.{length-names, place_of, state_of}
+use Rattle.lists.specs.declared.tree.Tree.{Tree}
+use Rattle.lists.specs.declared.word.Word.{Word as Given}
+use Rattle.lists.proofs.Children.{trie as trie_of}
+use Rattle.lists.proofs.Spelling.{count, place_of, state_of}
 use Rattle.lists.proofs.Bitwise.{bit_zero, bit-bit_or, bit_pow}
 
 grow_set : (n : Record) (xs : List Record) (u i : ℕ) (acc : List Word) → n.parent ≡ (rec xs i).parent → n.letter ≡ (rec xs i).letter → grow acc (take u (set xs i n)) ≡ grow acc (take u xs)
@@ -44,13 +48,38 @@ module _ (ns : List Record) (used q : ℕ) (n : Record) (room : q < length ns) (
     (λ i pos h. omega (arith, trie.2 i pos h, rec_set (λ (m : Record). m.parent) ns q n room p i)),
     (λ i pos h. rec_set (λ (m : Record). m.length) ns q n room d i ∙ trie.3 i pos h ∙ ap (λ (ws : List Word). length (get_or ws i [])) (sym (names_set n ns used q p l))),
     subst Places (sym (names_set n ns used q p l)) trie.4,
+    λ h. omega (arith, trie.5 h, length-set ns q n),
   )
 
   pub under_set : (m : ℕ) → Under m ns used → Under m (set ns q n) used
   under_set m u i pos h = omega (arith, u i pos h, rec_set (λ (m : Record). m.letter) ns q n room l i)
 
-module _ (old ns : List Record) (used : ℕ) (w : Word) (at more : ℕ) (some : 1 ≤ length w) (fits : used ≤ length old) (trie : Trie old used) (in' : more ≤ length ns)
-    (e : Entered old ns used w (length w - 1) at more) where
+-- the tree o after the prefixes of a word were entered is t
+module _ (o t : Tree) (word : Given) (at : ℕ) (room : at < length t.records.now) (e : Entered o.records.now t.records.now o.used word.letters.now (length word.letters.now - 1) at t.used) where
+  abbrev old : List Record
+  old = o.records.now
+
+  abbrev ns : List Record
+  ns = t.records.now
+
+  abbrev used : ℕ
+  used = o.used
+
+  abbrev more : ℕ
+  more = t.used
+
+  abbrev w : Word
+  w = word.letters.now
+
+  some : 1 ≤ length w
+  some = word.some
+
+  trie : Trie old used
+  trie = trie_of o
+
+  grown : Trie ns more
+  grown = trie_of t
+
   whole : take (length w - 1 + 1) w ≡ w
   whole = take_all (length w - 1 + 1) w (omega arith)
 
@@ -62,13 +91,7 @@ module _ (old ns : List Record) (used : ℕ) (w : Word) (at more : ℕ) (some : 
   abbrev marked : Record
   marked = with_end (rec ns at) (2 ^ get_or w (length w - 1) 0)
 
-  room : at < length ns
-  room = omega (arith, e.inside)
-
-  pub marked-trie : Trie (set ns at (with_end (rec ns at) (2 ^ get_or w (length w - 1) 0))) more
-  marked-trie = trie_set ns more at marked room refl refl refl e.trie
-
-  pub marked-under : (m : ℕ) → Under m old used → ((i : ℕ) → i < length w → get_or w i 0 < m) → Under m (set ns at (with_end (rec ns at) (2 ^ get_or w (length w - 1) 0))) more
+  marked-under : (m : ℕ) → Under m old used → ((i : ℕ) → i < length w → get_or w i 0 < m) → Under m (set ns at (with_end (rec ns at) (2 ^ get_or w (length w - 1) 0))) more
   marked-under m u l = under_set ns more at marked room refl refl refl m (e.letters m u l)
 
   module _ (taken longest : ℕ) (ps : List Word) (lists : Lists old used taken longest ps) where
@@ -76,7 +99,7 @@ module _ (old ns : List Record) (used : ℕ) (w : Word) (at more : ℕ) (some : 
     all = e.states ∙ ap (λ (v : Word). gather (names old used) (fronts v)) whole ∙ ap (λ (l : List Word). gather l (fronts w)) lists.names ∙ sym (states_push ps w)
 
     long : length (names old used) ≡ used
-    long = length-names old used fits trie.0
+    long = count old used trie
 
     same_word : (q : ℕ) → q < used → get_or (names ns more) q [] ≡ get_or (names old used) q []
     same_word q h = ap (λ (l : List Word). get_or l q []) e.states ∙ gather-at (fronts (take (length w - 1 + 1) w)) (names old used) [] q (omega (arith, long))
@@ -89,9 +112,9 @@ module _ (old ns : List Record) (used : ℕ) (w : Word) (at more : ℕ) (some : 
         let v : Word = get_or (names ns more) q [] in
         let none : member ps (v ++ (a ∷ [])) ≡ false = never (member ps (v ++ (a ∷ []))) (λ m.
         let st : member (names old used) v ≡ true = ap (λ (l : List Word). member l v) lists.names ∙ states_fronted ps v a m in
-        let s = state_of old used fits trie v st in
+        let s = state_of old used trie v st in
         let i : ℕ = place (names old used) v in
-        let is : i ≡ q = sym (place_of ns more in' e.trie i (omega (arith, s.0, e.grows)) v (same_word i s.0 ∙ s.1)).1 ∙ (place_of ns more in' e.trie q h v refl).1 in
+        let is : i ≡ q = sym (place_of ns more grown i (omega (arith, s.0, e.grows)) v (same_word i s.0 ∙ s.1)).1 ∙ (place_of ns more grown q h v refl).1 in
         omega (arith, s.0)) in
         ap (λ (m : ℕ). bit m a) (e.fresh.1 q ge h) ∙ bit_zero a ∙ sym none)
         (cases_lt q used)
@@ -113,11 +136,7 @@ module _ (old ns : List Record) (used : ℕ) (w : Word) (at more : ℕ) (some : 
         parts : w ≡ get_or (names ns more) q [] ++ (a ∷ []) → (q ≡ at) × (get_or w (length w - 1) 0 ≡ a)
         parts s =
             let both = same_from_push (get_or (names ns more) at []) (get_or (names ns more) q []) (get_or w (length w - 1) 0) a (sym ends ∙ s) in
-            (sym (place_of ns more in' e.trie q h (get_or (names ns more) q []) refl).1 ∙ (place_of ns more in' e.trie at e.inside (get_or (names ns more) q []) both.0).1, both.1)
-
-        or_false : (b : Bool) → b ≡ (b || false)
-        or_false true = refl
-        or_false false = refl
+            (sym (place_of ns more grown q h (get_or (names ns more) q []) refl).1 ∙ (place_of ns more grown at e.inside (get_or (names ns more) q []) both.0).1, both.1)
 
         here : q ≡ at → same w (get_or (names ns more) q [] ++ (a ∷ [])) ≡ eqb (get_or w (length w - 1) 0) a
         here is = ⊎_elim
@@ -140,11 +159,11 @@ module _ (old ns : List Record) (used : ℕ) (w : Word) (at more : ℕ) (some : 
             ∙ sym split
         go (no ne) =
             ap (λ (m : Record). bit m.ends a) (get_or-set_other ns at q marked blank ne)
-            ∙ or_false (bit (rec ns q).ends a)
+            ∙ sym (or-false (bit (rec ns q).ends a))
             ∙ ap (λ (b : Bool). bit (rec ns q).ends a || b) (sym (not_same w (get_or (names ns more) q [] ++ (a ∷ [])) (λ s. ne (parts s).0)))
             ∙ sym split
 
-    pub lists-more : length old ≡ length ns → Lists (set ns at (with_end (rec ns at) (2 ^ get_or w (length w - 1) 0))) more (taken + 1) (max longest (length w)) (ps ++ (w ∷ []))
+    lists-more : length old ≡ length ns → Lists (set ns at (with_end (rec ns at) (2 ^ get_or w (length w - 1) 0))) more (taken + 1) (max longest (length w)) (ps ++ (w ∷ []))
     lists-more len = record {
       names = names_set marked ns more at refl refl ∙ all;
       count = omega (arith, lists.count, length_push ps w);
@@ -154,9 +173,17 @@ module _ (old ns : List Record) (used : ℕ) (w : Word) (at more : ℕ) (some : 
           after (omega (arith, length-set ns at marked)) q a h l ∙ ap (λ (ws : List Word). member (ps ++ (w ∷ [])) (get_or ws q [] ++ (a ∷ []))) (sym (names_set marked ns more at refl refl));
     }
 
-    -- the same, as the code has it
-    pub lists-taken : length old ≡ length ns → (fin : List Record) (most : ℕ) → fin ≡ set ns at (with_end (rec ns at) (2 ^ get_or w (length w - 1) 0)) → most ≡ max (length w) longest → Lists fin more (taken + 1) most (ps ++ (w ∷ []))
-    lists-taken len fin most f m =
+  -- and fin is that tree once the end is marked by the last letter
+  module _ (fin : Tree) (a : ℕ) (last : a ≡ get_or w (length w - 1) 0) (to : fin.records.now ≡ set ns at (with_end (rec ns at) (2 ^ a))) (same-many : fin.used ≡ more) where
+    is : fin.records.now ≡ set ns at (with_end (rec ns at) (2 ^ get_or w (length w - 1) 0))
+    is = to ∙ ap (λ (c : ℕ). set ns at (with_end (rec ns at) (2 ^ c))) last
+
+    pub taken-under : (m : ℕ) → Under m old used → ((i : ℕ) → i < length w → get_or w i 0 < m) → Under m fin.records.now fin.used
+    taken-under m u l = subst (λ (n : ℕ). Under m fin.records.now n) (sym same-many) (subst (λ (r : List Record). Under m r more) (sym is) (marked-under m u l))
+
+    pub lists-taken : length ns ≡ length old → (taken longest most : ℕ) → most ≡ max (length w) longest → (ps : List Word) → Lists old used taken longest ps → Lists fin.records.now fin.used (taken + 1) most (ps ++ (w ∷ []))
+    lists-taken len taken longest most m ps lists =
         let n : max longest (length w) ≡ most = omega (arith, m) in
-        subst (λ (k : ℕ). Lists fin more (taken + 1) k (ps ++ (w ∷ []))) n
-        (subst (λ (r : List Record). Lists r more (taken + 1) (max longest (length w)) (ps ++ (w ∷ []))) (sym f) (lists-more len))
+        subst (λ (k : ℕ). Lists fin.records.now k (taken + 1) most (ps ++ (w ∷ []))) (sym same-many)
+        (subst (λ (k : ℕ). Lists fin.records.now more (taken + 1) k (ps ++ (w ∷ []))) n
+        (subst (λ (r : List Record). Lists r more (taken + 1) (max longest (length w)) (ps ++ (w ∷ []))) (sym is) (lists-more taken longest ps lists (sym len))))

@@ -1,11 +1,12 @@
 -- The words of one state. Assumes nothing.
-use Rattle.std.proofs.Common.{◌≡◌, ℕ, ◌+◌, ◌*◌, ◌<◌, List, length, get_or, set, sym, refl, ap, ◌∙◌, inl, inr, ⊎_elim, arith}
+use Rattle.std.proofs.Common.{◌≡◌, ℕ, ◌+◌, ◌-◌, ◌*◌, ◌<◌, ◌≤◌, List, length, get_or, set, take, drop, length-drop, sym, ap, ◌∙◌, inl, inr, ⊎_elim, arith}
 use native.Mathlib.Decide.{ℕ_discrete}
 use Rattle.std.proofs.lemmas.Nat.{div-add-mod'}
-use Rattle.std.proofs.lemmas.List.{get_or-set_same, get_or-set_other}
+use Rattle.std.proofs.lemmas.List.{get_or-set_same, get_or-set_other, get_or-take, length-take-le}
+use Rattle.std.proofs.lemmas.Grind.{get_or_after_one}
 use Rattle.std.proofs.lemmas.Bool.{cases_lt}
 use Rattle.lists.specs.declared.record.Record.{Record}
-use Rattle.lists.specs.Names.{rec}
+use Rattle.lists.specs.Names.{blank, rec}
 use Rattle.lists.specs.Lists.{columns}
 use Rattle.lists.specs.Links.{Others, Planted}
 
@@ -25,22 +26,12 @@ module _ (words : List ℕ) (a q v : ℕ) (room : a * 512 + q < length words) (s
   pub others_write : (old : List ℕ) → Others old words q → Others old (set words (a * 512 + q) v) q
   others_write old o b s l ne = write-state b s l ne ∙ o b s l ne
 
--- the next letter leads as from the link
-pub inherit_more : (old words : List ℕ) (a q link : ℕ) → q < 512 → link < 512 → (link ≡ q → ⊥) → a * 512 + q < length words
-    → ((b : ℕ) → b < a → get_or words (b * 512 + q) 0 ≡ get_or old (b * 512 + link) 0) → Others old words q
-    → (b : ℕ) → b < a + 1 → get_or (set words (a * 512 + q) (get_or words (a * 512 + link) 0)) (b * 512 + q) 0 ≡ get_or old (b * 512 + link) 0
-inherit_more old words a q link h l ne room row others b lt = ⊎_elim
-    (λ k. write-letter words a q (get_or words (a * 512 + link) 0) room h b (λ e. omega arith) ∙ row b k)
-    (λ k.
-    let e : b ≡ a = omega arith in
-    ap (λ (n : ℕ). get_or (set words (a * 512 + q) (get_or words (a * 512 + link) 0)) (n * 512 + q) 0) e ∙ write_same words a q (get_or words (a * 512 + link) 0) room h ∙ others a link l ne ∙ ap (λ (n : ℕ). get_or old (n * 512 + link) 0) (sym e))
-    (cases_lt b a)
+-- the states but the first
+pub others_long : (ns : List Record) (used : ℕ) → 1 ≤ used → used ≤ length ns → length (take (used - 1) (drop 1 ns)) ≡ used - 1
+others_long ns used some fits = length-take-le (used - 1) (drop 1 ns) (omega (arith, length-drop 1 ns))
 
-pub reset_more : (words : List ℕ) (a : ℕ) → a * 512 + 0 < length words → ((b : ℕ) → b < a → get_or words (b * 512 + 0) 0 ≡ 0) → (b : ℕ) → b < a + 1 → get_or (set words (a * 512 + 0) 0) (b * 512 + 0) 0 ≡ 0
-reset_more words a room row b lt = ⊎_elim
-    (λ k. write-letter words a 0 0 room (omega arith) b (λ e. omega arith) ∙ row b k)
-    (λ k. let e : b ≡ a = omega arith in ap (λ (n : ℕ). get_or (set words (a * 512 + 0) 0) (n * 512 + 0) 0) e ∙ write_same words a 0 0 room (omega arith))
-    (cases_lt b a)
+pub others_at : (ns : List Record) (used j : ℕ) → j + 1 < used → rec (take (used - 1) (drop 1 ns)) j ≡ rec ns (j + 1)
+others_at ns used j lt = get_or-take (used - 1) (drop 1 ns) j blank (omega arith) ∙ get_or_after_one ns j blank ∙ ap (rec ns) (omega arith)
 
 module _ (ns : List Record) (old words : List ℕ) (q j a : ℕ) (before : Planted ns old words q j a) where
   -- the record at j is no child of q
@@ -62,6 +53,3 @@ module _ (ns : List Record) (old words : List ℕ) (q j a : ℕ) (before : Plant
           (λ h. inl (h.0, h.1, omega (arith, h.2), h.3, h.4, same ∙ h.5))
           (λ h. inr ((λ i p lt u by. ⊎_elim (λ k. h.0 i p k u by) (λ k. let e : i ≡ j = omega arith in ne (sym by ∙ ap (λ (n : ℕ). (rec ns n).letter) e)) (cases_lt i j)), same ∙ h.1))
           before
-
-pub plant_none : (ns : List Record) (old : List ℕ) (q a : ℕ) → Planted ns old old q 1 a
-plant_none ns old q a = inr ((λ i pos lt up by. absurd (omega arith)), refl)

@@ -1,5 +1,5 @@
 -- One state more is settled: its failure link, its end marks and its words. Assumes nothing.
-use Rattle.std.proofs.Common.{◌≡◌, ℕ, ◌+◌, ◌*◌, ◌/◌, ◌<◌, ◌≤◌, min, Bool, true, false, ◌||◌, List, [], ◌∷◌, ◌++◌, length, get_or, drop, set, sym, refl, ap, ◌∙◌, subst, inl, inr, ⊎_elim, arith, length-drop, length-set}
+use Rattle.std.proofs.Common.{◌≡◌, ℕ, ◌+◌, ◌*◌, ◌/◌, ◌<◌, ◌≤◌, min, Bool, true, false, ◌||◌, List, [], ◌∷◌, ◌++◌, length, get_or, drop, set, sym, refl, ap, ◌∙◌, subst, inl, inr, ⊎_elim, arith, length-drop}
 use native.Mathlib.Decide.{ℕ_discrete}
 use Rattle.std.proofs.lemmas.List.{get_or-set_same, get_or-set_other, length_push}
 use Rattle.std.proofs.lemmas.Bool.{cases_lt}
@@ -10,21 +10,24 @@ use Rattle.lists.specs.declared.record.Record.{Record}
 use Rattle.lists.specs.Names.{blank, rec, names, Trie, Under}
 use Rattle.lists.specs.Lists.{bit, columns}
 use Rattle.lists.specs.Links.{tied, Before, Shape, Endings, Others, Planted}
+use Rattle.lists.specs.declared.links.Links.{Links}
+use Rattle.lists.specs.Linked.{word, Linked}
+use Rattle.lists.proofs.Children.{trie as trie_of}
 use Rattle.lists.proofs.Bitwise.{bit-bit_or}
 use Rattle.lists.proofs.Spelling.{names-first, names_step, names-closed, place_of, child_state, child_none}
-use Rattle.lists.proofs.Marking.{names_set, trie_set, under_set}
+use Rattle.lists.proofs.Marking.{names_set, trie_set}
 use Rattle.lists.proofs.Linking.{root, root_place, within}
 
 -- a letter leads to the child if there is one, else as before
-pub row-right : (ns : List Record) (used : ℕ) (fits : used ≤ length ns) (trie : Trie ns used) (q a : ℕ) → q < used → (old words : List ℕ) → Planted ns old words q used a
+pub row-right : (ns : List Record) (used : ℕ) (trie : Trie ns used) (q a : ℕ) → q < used → (old words : List ℕ) → Planted ns old words q used a
     → (member (names ns used) (get_or (names ns used) q [] ++ (a ∷ [])) ≡ false → get_or old (a * 512 + q) 0 ≡ longest (names ns used) (get_or (names ns used) q [] ++ (a ∷ [])))
     → get_or words (a * 512 + q) 0 ≡ longest (names ns used) (get_or (names ns used) q [] ++ (a ∷ []))
-row-right ns used fits trie q a lt old words planted base = ⊎_elim
+row-right ns used trie q a lt old words planted base = ⊎_elim
     (λ h.
     let w : Word = get_or (names ns used) q [] ++ (a ∷ []) in
-    let at = place_of ns used fits trie h.0 h.2 w (child_state ns used fits trie q a h.0 (h.1, h.2, h.3, h.4)) in
+    let at = place_of ns used trie h.0 h.2 w (child_state ns used trie q a h.0 (h.1, h.2, h.3, h.4)) in
     h.5 ∙ sym (longest-member (names ns used) w at.0 ∙ at.1))
-    (λ h. h.1 ∙ base (child_none ns used fits trie q a lt h.0))
+    (λ h. h.1 ∙ base (child_none ns used trie q a lt h.0))
     planted
 
 skip_push : (ws : List Word) (w : Word) (a : ℕ) → 1 ≤ length w → member ws (w ++ (a ∷ [])) ≡ false → longest ws (drop 1 w ++ (a ∷ [])) ≡ longest ws (w ++ (a ∷ []))
@@ -36,27 +39,45 @@ hit_push ps [] a h = absurd (omega arith)
 hit_push ps (c ∷ t) a h = refl
 
 -- the first state
-pub root_row : (ns : List Record) (used : ℕ) (fits : used ≤ length ns) (trie : Trie ns used) (a : ℕ) (old words : List ℕ) → get_or old (a * 512 + 0) 0 ≡ 0 → Planted ns old words 0 used a → get_or words (a * 512 + 0) 0 ≡ longest (names ns used) (get_or (names ns used) 0 [] ++ (a ∷ []))
-root_row ns used fits trie a old words none planted = row-right ns used fits trie 0 a trie.0 old words planted (λ m.
+pub root_row : (ns : List Record) (used : ℕ) (trie : Trie ns used) (a : ℕ) (old words : List ℕ) → get_or old (a * 512 + 0) 0 ≡ 0 → Planted ns old words 0 used a → get_or words (a * 512 + 0) 0 ≡ longest (names ns used) (get_or (names ns used) 0 [] ++ (a ∷ []))
+root_row ns used trie a old words none planted = row-right ns used trie 0 a trie.0 old words planted (λ m.
     let e = names-first ns used in
     let m' : member (names ns used) (a ∷ []) ≡ false = sym (ap (λ (w : Word). member (names ns used) (w ++ (a ∷ []))) e) ∙ m in
-    none ∙ sym (ap (λ (w : Word). longest (names ns used) (w ++ (a ∷ []))) e ∙ longest-skip (names ns used) a [] m' ∙ root_place ns used fits trie))
+    none ∙ sym (ap (λ (w : Word). longest (names ns used) (w ++ (a ∷ []))) e ∙ longest-skip (names ns used) a [] m' ∙ root_place ns used trie))
 
-module _ (ns : List Record) (words : List ℕ) (used q : ℕ) (pos : 0 < q) (lt : q < used) (shape : Shape ns words used (length (get_or (names ns used) q [])) q)
-    (f : ℕ) (link : f ≡ longest (names ns used) (drop 1 (get_or (names ns used) q []))) where
-  fits : used ≤ length ns
-  fits = omega (arith, shape.room, shape.trie.1)
+module _ (l : Links) (q : ℕ) (pos : 0 < q) (lt : q < l.tree.used) (linked : Linked l (length (word l q)) q)
+    (f : ℕ) (link : f ≡ longest (names l.tree.records.now l.tree.used) (drop 1 (word l q))) where
+  abbrev ns : List Record
+  ns = l.tree.records.now
+
+  abbrev words : List ℕ
+  words = l.words.now
+
+  abbrev used : ℕ
+  used = l.tree.used
+
+  trie : Trie ns used
+  trie = trie_of l.tree
+
+  small : Under (columns words) ns used
+  small = l.small
+
+  shape : Shape ns words used (length (get_or (names ns used) q [])) q
+  shape = linked
+
+  fits : 1 < used → used ≤ length ns
+  fits h = omega (arith, trie.1, trie.5 h)
 
   some : 1 ≤ length (get_or (names ns used) q [])
   some =
-      omega (arith, ap length (names_step ns used q fits pos lt (shape.trie.2 q pos lt)), length_push (get_or (names ns used) (rec ns q).parent []) (rec ns q).letter)
+      omega (arith, ap length (names_step ns used q fits pos lt (trie.2 q pos lt)), length_push (get_or (names ns used) (rec ns q).parent []) (rec ns q).letter)
 
   pub link_inside : f < used
-  link_inside = omega (arith, link, within ns used fits shape.trie (drop 1 (get_or (names ns used) q [])))
+  link_inside = omega (arith, link, within ns used trie (drop 1 (get_or (names ns used) q [])))
 
   link_short : length (get_or (names ns used) f []) < length (get_or (names ns used) q [])
   link_short =
-      omega (arith, ap (λ (i : ℕ). length (get_or (names ns used) i [])) link, longest_short (names ns used) (root ns used fits shape.trie) (drop 1 (get_or (names ns used) q [])), length-drop 1 (get_or (names ns used) q []), some)
+      omega (arith, ap (λ (i : ℕ). length (get_or (names ns used) i [])) link, longest_short (names ns used) (root ns used trie) (drop 1 (get_or (names ns used) q [])), length-drop 1 (get_or (names ns used) q []), some)
 
   pub link_other : f ≡ q → ⊥
   link_other e = omega (arith, ap (λ (i : ℕ). length (get_or (names ns used) i [])) e, link_short)
@@ -65,7 +86,7 @@ module _ (ns : List Record) (words : List ℕ) (used q : ℕ) (pos : 0 < q) (lt 
   new = tied (rec ns q) f (rec ns f).ends
 
   room : q < length ns
-  room = omega (arith, fits)
+  room = omega (arith, fits (omega arith))
 
   same : names (set ns q (tied (rec ns q) f (rec ns f).ends)) used ≡ names ns used
   same = names_set new ns used q refl refl
@@ -74,10 +95,7 @@ module _ (ns : List Record) (words : List ℕ) (used q : ℕ) (pos : 0 < q) (lt 
   tied_names = same
 
   pub tied-trie : Trie (set ns q (tied (rec ns q) f (rec ns f).ends)) used
-  tied-trie = trie_set ns used q new room refl refl refl shape.trie
-
-  pub tied-under : Under (columns words) (set ns q (tied (rec ns q) f (rec ns f).ends)) used
-  tied-under = under_set ns used q new room refl refl refl (columns words) shape.small
+  tied-trie = trie_set ns used q new room refl refl refl trie
 
   kept : (x : ℕ) → (x ≡ q → ⊥) → rec (set ns q new) x ≡ rec ns x
   kept x ne = get_or-set_other ns q x new blank ne
@@ -109,28 +127,25 @@ module _ (ns : List Record) (words : List ℕ) (used q : ℕ) (pos : 0 < q) (lt 
         let base : member (names ns used) (get_or (names ns used) q [] ++ (a ∷ [])) ≡ false → get_or mid (a * 512 + q) 0 ≡ longest (names ns used) (get_or (names ns used) q [] ++ (a ∷ [])) = λ m.
         inherited a h ∙ shape.rows f a link_inside h (inl link_short)
         ∙ ap (λ (i : ℕ). longest (names ns used) (get_or (names ns used) i [] ++ (a ∷ []))) link
-        ∙ sym (longest_step (names ns used) (root ns used fits shape.trie) (names-closed ns used fits shape.trie) (drop 1 (get_or (names ns used) q [])) a)
+        ∙ sym (longest_step (names ns used) (root ns used trie) (names-closed ns used trie) (drop 1 (get_or (names ns used) q [])) a)
         ∙ skip_push (names ns used) (get_or (names ns used) q []) a some m in
-        let right = row-right (set ns q new) used (omega (arith, length-set ns q new, fits)) tied-trie q a lt mid last (planted a h) in
+        let right = row-right (set ns q new) used tied-trie q a lt mid last (planted a h) in
         (subst (λ (ws : List Word). (member ws (get_or ws q [] ++ (a ∷ [])) ≡ false → get_or mid (a * 512 + q) 0 ≡ longest ws (get_or ws q [] ++ (a ∷ []))) → get_or last (a * 512 + q) 0 ≡ longest ws (get_or ws q [] ++ (a ∷ []))) same right) base
 
     rows : (x a : ℕ) → x < used → a < columns words → Before (names ns used) d (q + 1) x → get_or last (a * 512 + x) 0 ≡ longest (names ns used) (get_or (names ns used) x [] ++ (a ∷ []))
     rows x a l h b = go (ℕ_discrete x q)
       where
-        small : x < 512
-        small = omega (arith, shape.trie.1)
+        inside : x < 512
+        inside = omega (arith, trie.1)
 
         go : Dec (x ≡ q) → get_or last (a * 512 + x) 0 ≡ longest (names ns used) (get_or (names ns used) x [] ++ (a ∷ []))
         go (yes e) = subst (λ (i : ℕ). get_or last (a * 512 + i) 0 ≡ longest (names ns used) (get_or (names ns used) i [] ++ (a ∷ []))) (sym e) (own_row a h)
-        go (no ne) = others' a x small ne ∙ others a x small ne ∙ shape.rows x a l h (earlier x ne b)
+        go (no ne) = others' a x inside ne ∙ others a x inside ne ∙ shape.rows x a l h (earlier x ne b)
 
     pub settled : Shape (set ns q (tied (rec ns q) f (rec ns f).ends)) last used (length (get_or (names ns used) q [])) (q + 1)
     settled =
         let cols : columns last ≡ columns words = ap (λ (n : ℕ). min 32 (n / 512)) same-long in
         record {
-          trie = tied-trie;
-          room = omega (arith, length-set ns q new, shape.room);
-          small = subst (λ (n : ℕ). Under n (set ns q new) used) (sym cols) tied-under;
           links = subst (λ (ws : List Word). (x : ℕ) → 0 < x → x < used → Before ws d (q + 1) x → (rec (set ns q new) x).link ≡ longest ws (drop 1 (get_or ws x []))) (sym same) links;
           rows = subst (λ (ws : List Word). (x a : ℕ) → x < used → a < columns last → Before ws d (q + 1) x → get_or last (a * 512 + x) 0 ≡ longest ws (get_or ws x [] ++ (a ∷ []))) (sym same) (λ x a l h b. rows x a l (omega (arith, cols)) b);
         }
@@ -149,7 +164,7 @@ module _ (ns : List Record) (words : List ℕ) (used q : ℕ) (pos : 0 < q) (lt 
         ∙ ap (λ (b : Bool). member ps (get_or (names ns used) q [] ++ (a ∷ [])) || b)
         (e.done f a link_inside h (inl link_short)
         ∙ ap (λ (i : ℕ). hit ps (get_or (names ns used) i [] ++ (a ∷ []))) link
-        ∙ sym (hit_step (names ns used) (root ns used fits shape.trie) ps fronted (drop 1 (get_or (names ns used) q [])) a))
+        ∙ sym (hit_step (names ns used) (root ns used trie) ps fronted (drop 1 (get_or (names ns used) q [])) a))
         ∙ sym (hit_push ps (get_or (names ns used) q []) a some)
 
     done : (x a : ℕ) → x < used → a < 32 → Before (names ns used) d (q + 1) x → bit (rec (set ns q new) x).ends a ≡ hit ps (get_or (names ns used) x [] ++ (a ∷ []))

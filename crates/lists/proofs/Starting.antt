@@ -1,10 +1,8 @@
 -- An empty list. Assumes nothing.
-use Rattle.std.proofs.Common.{◌≡◌, ℕ, ◌≤◌, false, List, [], ◌∷◌, length, refl, ap, ◌∙◌, arith}
+use Rattle.std.proofs.Common.{◌≡◌, ℕ, ◌≤◌, false, List, [], length, refl, ap, ◌∙◌, arith}
 use Rattle.std.proofs.lemmas.Bool.{both_ways}
-use Rattle.listlaw.specs.Patterns.{Places}
-use Rattle.listlaw.proofs.States.{states_places}
 use Rattle.lists.specs.declared.record.Record.{Record}
-use Rattle.lists.specs.Names.{rec, names}
+use Rattle.lists.specs.Names.{rec}
 use Rattle.lists.specs.Lists.{bit, Lists}
 use Rattle.lists.proofs.Spelling.{names_one}
 use Rattle.lists.proofs.Bitwise.{bit_zero}
@@ -17,7 +15,3 @@ lists-none ns bare = record {
   solid = λ p h. absurd (both_ways false refl h);
   marks = λ long q a h l. let e : q ≡ 0 = omega arith in ap (λ (k : ℕ). bit (rec ns k).ends a) e ∙ ap (λ (m : ℕ). bit m a) (bare long) ∙ bit_zero a;
 }
-
-pub places_one : (ns : List Record) → Places (names ns 1)
-places_one [] = states_places []
-places_one (x ∷ ns) = states_places []

@@ -8,7 +8,7 @@ use Rattle.lists.specs.declared.builder.Builder.{Builder}
 use Rattle.lists.specs.Taking.{Holding}
 
 abbrev pub Holds : {K : Type 0} → Alphabet K → ℕ → ℕ → Builder K → List (List K) → Type 0
-Holds A n m b ps = Holding A n m b.records.now b.words.now b.used b.taken b.longest ps
+Holds A n m b ps = Holding A n m b.tree.records.now b.words.now b.tree.used b.taken b.longest ps
 
 abbrev pub Unchanged : {K : Type 0} → Builder K → Builder K → Type 0
-Unchanged a b = (b.records.now ≡ a.records.now) × (b.words.now ≡ a.words.now) × (b.used ≡ a.used) × (b.taken ≡ a.taken) × (b.longest ≡ a.longest)
+Unchanged a b = (b.tree.records.now ≡ a.tree.records.now) × (b.words.now ≡ a.words.now) × (b.tree.used ≡ a.tree.used) × (b.taken ≡ a.taken) × (b.longest ≡ a.longest)

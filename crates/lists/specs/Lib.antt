@@ -2,7 +2,9 @@ pub mod Names
 pub mod Lists
 pub mod Taking
 pub mod Links
+pub mod Linked
 pub mod Finished
 pub mod Reading
+pub mod Words
 pub mod History
 pub mod Meaning

@@ -8,7 +8,7 @@
 use Rattle.std.specs.Prelude.{◌≡◌, ℕ, ◌+◌, ◌*◌, ◌<◌, ◌≤◌, true, ◌⊎◌, List, [], ◌∷◌, ◌++◌, length, drop, ◌≢◌, bit_or, slice_index, slice_index_or}
 use Rattle.listlaw.specs.Patterns.{Word, member, states, hit, longest}
 use Rattle.lists.specs.declared.record.Record.{Record}
-use Rattle.lists.specs.Names.{rec, names, Trie, Under}
+use Rattle.lists.specs.Names.{rec, names}
 use Rattle.lists.specs.Lists.{bit, columns}
 
 abbrev pub tied : Record → ℕ → ℕ → Record
@@ -18,9 +18,6 @@ abbrev pub Before : List Word → ℕ → ℕ → ℕ → Type 0
 Before ws d i q = (length (slice_index_or ws q []) < d) ⊎ ((length (slice_index_or ws q []) ≡ d) × (q < i))
 
 pub record Shape (ns : List Record) (words : List ℕ) (used d i : ℕ) : Type 0 where
-  pub trie : Trie ns used
-  pub room : 512 ≤ length ns
-  pub small : Under (columns words) ns used
   -- the failure link is the longest proper suffix that is a state
   pub links : (q : ℕ) → 0 < q → q < used → Before (names ns used) d i q → (rec ns q).link ≡ longest (names ns used) (drop 1 (slice_index_or (names ns used) q []))
   -- a letter leads to the longest suffix of the state and the letter that is a state

@@ -43,8 +43,9 @@ Below ns used = (i : ℕ) → 0 < i → i < used → (rec ns i).parent < i
 abbrev pub Lengths : List Record → ℕ → Type 0
 Lengths ns used = (i : ℕ) → 0 < i → i < used → (rec ns i).length ≡ length (slice_index_or (names ns used) i [])
 
+-- a tree of more than the empty word lies in records that are enough for any
 abbrev pub Trie : List Record → ℕ → Type 0
-Trie ns used = (1 ≤ used) × (used ≤ 512) × Below ns used × Lengths ns used × Places (names ns used)
+Trie ns used = (1 ≤ used) × (used ≤ 512) × Below ns used × Lengths ns used × Places (names ns used) × (1 < used → 512 ≤ length ns)
 
 abbrev pub Under : ℕ → List Record → ℕ → Type 0
 Under n ns used = (i : ℕ) → 0 < i → i < used → (rec ns i).letter < n
@@ -55,7 +56,6 @@ Fresh old ns used more = ((i : ℕ) → i < used → rec ns i ≡ rec old i) × 
 
 -- the state `at` has the word of `under` and a, and nothing else is new
 pub record Reached (old ns : List Record) (used under a at more : ℕ) : Type 0 where
-  pub trie : Trie ns more
   pub inside : at < more
   pub word : slice_index_or (names ns more) at [] ≡ slice_index_or (names old used) under [] ++ (a ∷ [])
   pub states : names ns more ≡ with (names old used) (slice_index_or (names old used) under [] ++ (a ∷ []))
@@ -65,7 +65,6 @@ pub record Reached (old ns : List Record) (used under a at more : ℕ) : Type 0 
 
 -- the prefixes of w up to k letters are states, the longest of them is `at`, and nothing else is new
 pub record Entered (old ns : List Record) (used : ℕ) (w : Word) (k at more : ℕ) : Type 0 where
-  pub trie : Trie ns more
   pub inside : at < more
   pub word : slice_index_or (names ns more) at [] ≡ take k w
   pub states : names ns more ≡ gather (names old used) (fronts (take (k + 1) w))

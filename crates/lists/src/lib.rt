@@ -8,7 +8,8 @@ mod listed;
 mod reading;
 mod record;
 mod taking;
-mod trie;
+mod tree;
+mod word;
 
 pub use builder::{Builder, LETTERS, PATTERNS, STATES};
 pub use listed::Listed;

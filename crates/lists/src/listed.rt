@@ -10,6 +10,7 @@ use std::marker::PhantomData;
 // It stops a string exactly when a pattern that it took occurs in the string. It can be copied, and so serve many users.
 #[derive_where(Copy)]
 pub struct Listed<'a, L> {
+    // lent tables, since nothing here may allocate
     pub(crate) records: &'a [Record],
     pub(crate) words: &'a [u16],
     // states, letters that the words have a place for, patterns taken, and the memory
@@ -27,6 +28,7 @@ pub struct Listed<'a, L> {
     ghost built: { Kept used columns (stop_at records.now columns taken) (goes_to words.now taken) memory },
 }
 
+// By hand, since a derive is refused for a generic struct with a ghost field.
 impl<'a, L> Clone for Listed<'a, L> {
     ghost is_clone = { λ x y. y ≡ x };
 

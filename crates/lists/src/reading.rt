@@ -1,28 +1,38 @@
-// Patterns that are read from bytes.
-ghost use Rattle.std.specs.Prelude.{◌≡◌, ℕ, ◌<◌, ◌≤◌, map, length, take, Some, None, MatchResult, slice_index};
+// Patterns that are given as letters, or read from bytes.
+ghost use Rattle.std.specs.Prelude.{◌≡◌, ℕ, map, Some, None, MatchResult};
 ghost use Rattle.faults.specs.Causes.{no_letter};
 ghost use Rattle.texts.specs.Texts.{reading, stray, spelled};
+ghost use Rattle.lists.specs.Words.{Spells};
 
-use crate::builder::LETTERS;
+use crate::word::Spelling;
 use faults::Fault;
-use letters::Printable;
+use letters::{Letter, Printable};
 
-// The numbers of the letters that `bytes` read as, of the first 12 if there are more. Every byte has to be a letter.
-pub(crate) fn read<L: Printable>(bytes: &[u8]) -> Result<[u8; 12], Fault>
-    ensures { MatchResult result
-        (λ word. (stray (reading L.Letter.alphabet L.Printable.parsed) bytes.now ≡ None)
-        × (length bytes.now ≤ 12 → take (length bytes.now) word ≡ map L.Letter.alphabet.number (spelled (reading L.Letter.alphabet L.Printable.parsed) bytes.now))
-        × ((i : ℕ) → i < length bytes.now → i < 12 → slice_index word i < L.Letter.alphabet.size))
-        (λ e. (i : ℕ) × ((stray (reading L.Letter.alphabet L.Printable.parsed) bytes.now ≡ Some i) × (e ≡ no_letter i))) }
-{
-    let mut word = [0; 12];
-    for (i, byte) in bytes.iter().enumerate() {
-        let Some(letter) = L::from_byte(*byte) else {
-            return Err(Fault::no_letter(i));
-        };
-        if i < LETTERS {
-            word[i] = letter.number();
+impl Spelling {
+    pub(crate) fn of<L: Letter>(pattern: &[L]) -> Spelling
+        ensures { Spells result.first result.count (map L.Letter.alphabet.number pattern.now) }
+    {
+        let mut spelling = Spelling::new();
+        for letter in pattern {
+            spelling.push(letter.number());
         }
+        spelling
     }
-    Ok(word)
+
+    // Every byte has to be a letter.
+    pub(crate) fn read<L: Printable>(bytes: &[u8]) -> Result<Spelling, Fault>
+        ensures { MatchResult result
+            (λ s. (stray (reading L.Letter.alphabet L.Printable.parsed) bytes.now ≡ None)
+            × Spells s.first s.count (map L.Letter.alphabet.number (spelled (reading L.Letter.alphabet L.Printable.parsed) bytes.now)))
+            (λ e. (i : ℕ) × ((stray (reading L.Letter.alphabet L.Printable.parsed) bytes.now ≡ Some i) × (e ≡ no_letter i))) }
+    {
+        let mut spelling = Spelling::new();
+        for (i, byte) in bytes.iter().enumerate() {
+            let Some(letter) = L::from_byte(*byte) else {
+                return Err(Fault::NoLetter(i));
+            };
+            spelling.push(letter.number());
+        }
+        Ok(spelling)
+    }
 }

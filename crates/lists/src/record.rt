@@ -1,9 +1,11 @@
 // The record that a list keeps for each of its states.
+ghost use Rattle.std.specs.Prelude.{◌≡◌, ◌==◌, ◌&&◌};
 
 // A state is a proper prefix of a pattern. The records lie in the order in which the prefixes first came, the empty one first.
 #[derive(Clone, Copy)]
 pub struct Record {
-    // the state of the prefix less its last letter, and that letter's number
+    // the state of the prefix less its last letter, and that letter's number; states are numbers of records and no `Box`,
+    // since nothing here may allocate
     pub parent: u16,
     pub letter: u8,
     // how many letters the prefix has
@@ -23,4 +25,11 @@ impl Record {
         link: 0,
         ends: 0,
     };
+
+    // Whether it hangs under the state `under` by the letter `a`.
+    pub(crate) fn hangs(&self, under: usize, a: u8) -> bool
+        ensures { result ≡ (self.now.parent == under && self.now.letter == a) }
+    {
+        self.parent as usize == under && self.letter == a
+    }
 }

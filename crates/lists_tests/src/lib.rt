@@ -10,7 +10,8 @@ use faults::Fault;
 use letters::Letter;
 use lists::{Builder, Record};
 
-// Where `text` is stopped by a list of one pattern: nowhere exactly when the pattern does not occur in it.
+// Where `text` is stopped by a list of one pattern: nowhere exactly when the pattern does not occur in it. The two tables come
+// side by side, as a list takes them.
 pub fn seek<L: Letter>(
     records: &mut [Record],
     words: &mut [u16],
@@ -39,7 +40,7 @@ mod tests {
     fn code(answer: Result<(), Fault>) -> (u8, usize) {
         match answer {
             Ok(()) => (0, 0),
-            Err(fault) => (fault.number, fault.place),
+            Err(fault) => (fault.number(), fault.place()),
         }
     }
 
@@ -58,13 +59,8 @@ mod tests {
     }
 
     // The letter with a number, the first one past the kind's end.
-    fn letter(n: usize) -> Trend {
-        if n < 6 {
-            if let Some(x) = <Trend as Letter>::from_number(n as u8) {
-                return x;
-            }
-        }
-        Trend::Steady
+    fn letter(n: u8) -> Trend {
+        Trend::from_number(n).unwrap_or(Trend::Steady)
     }
 
     // Takes 52 patterns of 12 letters, which bring 511 states.

@@ -4,6 +4,13 @@
 ghost use Rattle.std.specs.Prelude.{◌≡◌, ℕ, List, [], ◌∷◌, ◌++◌, length, replicate, decimal};
 ghost use Rattle.pages.specs.Pages.{Holds, Wrote, labelled as labelled_by, columns as columns_of};
 
+pub mod printed;
+
+use itoa::Buffer;
+pub use printed::Printed;
+
+// A lent slice and how much of it is written: a page cannot fail, so it has no heap to ask for room, and it is written by
+// calls and not through `Display`, whose `fmt` can.
 #[derive(Drop)]
 pub struct Page<'a> {
     bytes: &'a mut [u8],
@@ -58,10 +65,7 @@ impl<'a> Page<'a> {
     pub fn number(&mut self, n: usize)
         ensures { Wrote self.old self.new (decimal n) }
     {
-        if n >= 10 {
-            self.number(n / 10);
-        }
-        self.push(b'0' + (n % 10) as u8);
+        self.put(Buffer::new().format(n).as_bytes());
     }
 
     // A label, the digits of n, and an end.
@@ -77,14 +81,9 @@ impl<'a> Page<'a> {
     pub fn columns(&mut self, width: usize, n: usize)
         ensures { Wrote self.old self.new (columns_of width n) }
     {
-        self.blanks(width.saturating_sub(digits(n)));
-        self.number(n);
+        let mut buffer = Buffer::new();
+        let digits = buffer.format(n).as_bytes();
+        self.blanks(width.saturating_sub(digits.len()));
+        self.put(digits);
     }
-}
-
-// How many decimal digits n has.
-fn digits(n: usize) -> usize
-    ensures { result ≡ length (decimal n) }
-{
-    if n < 10 { 1 } else { 1 + digits(n / 10) }
 }

@@ -27,7 +27,7 @@ impl<P: Automaton + Drop, Q: Automaton<Kind = P::Kind> + Drop> Pair<P, Q> {
     {
         let product = left.states() as u32 * right.states() as u32;
         if product > MOST_STATES {
-            return Err(Fault::large_pair(product as usize));
+            return Err(Fault::LargePair(product as usize));
         }
         Ok(Pair { left, right })
     }

@@ -4,6 +4,7 @@
 
 #[cfg(test)]
 mod tests {
+    use lent::{LentLetters, LentList};
     use letters::{Flow, Seepage, Trend, Two};
     use lists::Record;
     use rewrites::rewrite_file;
@@ -32,15 +33,19 @@ mod tests {
         let mut out = vec![in heap; b'.'; 256]?;
         let printed = rewrite_file(
             input,
-            &mut records,
-            &mut words,
-            &mut two,
-            &mut trend,
-            &mut seepage,
+            &mut LentList {
+                records: &mut records,
+                words: &mut words,
+            },
+            &mut LentLetters {
+                two: &mut two,
+                trend: &mut trend,
+                seepage: &mut seepage,
+            },
             &mut table,
             &mut out,
         );
-        assert_eq!(rt; printed.written, written);
+        assert_eq!(rt; printed.done, written);
         assert_eq!(rt; printed.length, want.len());
         out.truncate(printed.length);
         assert_eq!(rt; out.as_slice(), want);
@@ -155,15 +160,19 @@ mod tests {
         let mut out = vec![in heap; b'.'; 30256]?;
         let printed = rewrite_file(
             &input,
-            &mut records,
-            &mut words,
-            &mut two,
-            &mut [],
-            &mut [],
+            &mut LentList {
+                records: &mut records,
+                words: &mut words,
+            },
+            &mut LentLetters {
+                two: &mut two,
+                trend: &mut [],
+                seepage: &mut [],
+            },
             &mut table,
             &mut out,
         );
-        assert_eq!(rt; printed.written, written);
+        assert_eq!(rt; printed.done, written);
         out.truncate(printed.length);
         assert!(rt; out.as_slice().ends_with(end));
         Ok(())

@@ -29,7 +29,6 @@ use Rattle.runlaw.specs.Runs.{run_model}
 use Rattle.pairlaw.specs.Pairs.{pair_model}
 use Rattle.rewritelaw.specs.Traces as whole
 use Rattle.rewritelaw.specs.Outcomes as entire
-use Rattle.rewritelaw.specs.Automata.{paired_up}
 use Rattle.rewrites.specs.Traces.{Fed, fed_as, refusal, fed_gap, go_on, fed_letter, fed_byte, fed, Sheeted, sheeted, told, closed, rewritten}
 use Rattle.rewrites.specs.Outcomes.{window_of, judged, body, body_of, outcome, printed, written}
 
@@ -169,22 +168,10 @@ module _ {K : Type 0} (A : Alphabet K) (parsed : ℕ → Option ℕ) (print : �
   body_agrees : (n w : ℕ) (t : List K) (v : List ℕ) (l : ℕ) (xs : List Item) → body A parsed print n w (length v) t l xs ≡ of_left (entire.body A parsed n w t v l xs)
   body_agrees n w t v l xs = read_agrees n w t v (listed A (reading A parsed) n w l fresh [] xs)
 
-  pair_agrees : (b : Bool) (x : Model K) (e : Fault) (t : List K) (v : List ℕ) (go : Model K → Result Sheeted Fault) (go' : Model K → whole.Left K Fault)
-      → ((m : Model K) → go m ≡ of_left (go' m)) → cond b (go x) (Err e) ≡ of_left (whole.unless_refused (cond b (Ok x) (Err e)) t v go')
-  pair_agrees true x e t v go go' each = each x
-  pair_agrees false x e t v go go' each = refl
-
-  -- what is told of a trace that left the tables t' and v': under one automaton, under two, and under those of the settings
+  -- what is told of a trace that left the tables t' and v': under an automaton, and under that of the settings
   module _ (k : ℕ) (bs : List ℕ) (t : List K) (v : List ℕ) (r : Result Counts Fault) (t' : List K) (v' : List ℕ) where
     pub told_rewritten : (m : Model K) → whole.left_as r t' v' ≡ whole.rewritten A parsed m k bs t v → told A.number print r t' ≡ rewritten A parsed print (length v) m k bs t
     told_rewritten m e = ap of_left e ∙ sym (rewritten_agrees m k bs t v)
-
-    pub told_both : (x y : Model K) → whole.left_as r t' v' ≡ whole.unless_refused (paired_up x y) t v (λ m. whole.rewritten A parsed m k bs t v)
-        → told A.number print r t' ≡ cond (nat_le (x.count * y.count) 4096) (rewritten A parsed print (length v) (pair_model x y) k bs t) (Err (large_pair (x.count * y.count)))
-    told_both x y e =
-        ap of_left e
-        ∙ sym (pair_agrees (nat_le (x.count * y.count) 4096) (pair_model x y) (large_pair (x.count * y.count)) t v (λ m. rewritten A parsed print (length v) m k bs t)
-        (λ m. whole.rewritten A parsed m k bs t v) (λ m. rewritten_agrees m k bs t v))
 
     pub told_limited : (M : Model K) (o : Option ℕ) → whole.left_as r t' v' ≡ whole.unless_refused (limited M A o Ok) t v (λ m. whole.rewritten A parsed m k bs t v)
         → told A.number print r t' ≡ limited M A o (λ m. rewritten A parsed print (length v) m k bs t)

@@ -1,5 +1,4 @@
 pub mod Feeding
-pub mod Limits
 pub mod Running
 pub mod Bodies
 pub mod Agreeing

@@ -6,6 +6,6 @@ mod report;
 mod settings;
 pub mod trace;
 
-pub use outcome::{Printed, rewrite_file};
-pub use report::{front, show_letters};
+pub use outcome::rewrite_file;
+pub use report::front;
 pub use trace::feed;

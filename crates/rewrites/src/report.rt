@@ -1,10 +1,11 @@
 // What is printed of a rewritten trace.
-ghost use Rattle.std.specs.Prelude.{◌≡◌, map, take};
+ghost use Rattle.std.specs.Prelude.{◌≡◌, take};
 ghost use Rattle.pages.specs.Pages.{Wrote};
 ghost use Rattle.rewrites.specs.Traces.{sheeted, told};
 ghost use Rattle.rewrites.specs.Outcomes.{counts_line, shown, printed as printed_of, written};
 
 use files::Refusal;
+use headings::{show_letters, show_refusal};
 use letters::{Letter, Printable};
 use pages::Page;
 use sheetlaw::Counts;
@@ -13,16 +14,7 @@ use sheetlaw::Counts;
 pub fn front<L>(table: &[L], n: usize) -> &[L]
     ensures { result.now ≡ take n table.now }
 {
-    if n < table.len() { &table[0..n] } else { table }
-}
-
-// Writes letters as bytes.
-pub fn show_letters<L: Printable>(letters: &[L], page: &mut Page<'_>)
-    ensures { Wrote page.old page.new (map (λ x. L.Printable.printed (L.Letter.alphabet.number x)) letters.now) }
-{
-    for letter in letters {
-        page.push(letter.byte());
-    }
+    &table[..n.min(table.len())]
 }
 
 fn show_counts(counts: Counts, page: &mut Page<'_>)
@@ -55,9 +47,6 @@ pub fn show<L: Printable>(answer: Result<Counts, Refusal>, table: &[L], page: &m
             show_sheet(counts, table, page);
             true
         }
-        Err(refusal) => {
-            refusal.show(page);
-            false
-        }
+        Err(refusal) => show_refusal(refusal, page),
     }
 }

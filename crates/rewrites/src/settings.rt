@@ -1,22 +1,21 @@
 // The automaton that a file's settings make, and its trace rewritten under it.
 //
-// `told` is what the answer and the text come to; `left` tells of the answer and of what both tables hold then.
-ghost use Rattle.std.specs.Prelude.{◌≡◌, ◌*◌, if◌then◌else◌, length, Ok, Err, nat_le};
-ghost use Rattle.faults.specs.Causes.{large_pair};
-ghost use Rattle.pairlaw.specs.Pairs.{pair_model};
+// `told` is what the answer and the text come to; `left` tells of the answer and of what both tables hold then. `Roomy` is
+// asked for by each function that makes a sheet: it is a fact about a type, and no value could carry it.
+ghost use Rattle.std.specs.Prelude.{◌≡◌, length, Ok};
+ghost use Rattle.listings.specs.Listings.{limited};
 ghost use Rattle.pairs.specs.contracts.Pair.{the_row as pair_row};
 ghost use Rattle.runs.specs.contracts.Run.{the_row as run_row};
 ghost use Rattle.sheets.specs.contracts.sheet.Sheet.{the_row as sheet_row};
-ghost use Rattle.listings.specs.Listings.{limited};
 ghost use Rattle.rewrites.specs.Fits.{Roomy};
 ghost use Rattle.rewrites.specs.Traces.{rewritten, told};
 ghost use Rattle.rewritelaw.specs.Traces.{left_as, unless_refused, rewritten as rewritten_whole};
-ghost use Rattle.rewritelaw.specs.Automata.{paired_up};
 
 use crate::trace::feed;
 use automata::Automaton;
 use faults::Fault;
 use letters::Printable;
+use listings::Limited;
 use pairs::Pair;
 use runs::Run;
 use sheetlaw::Counts;
@@ -41,26 +40,8 @@ where
     Ok(sheet.close())
 }
 
-// The same under two automata at once.
-fn rewrite_both<P: Automaton + Drop, Q: Automaton<Kind = P::Kind> + Drop>(
-    left: P,
-    right: Q,
-    k: u16,
-    trace: &[u8],
-    text: &mut [P::Kind],
-    work: &mut [u16],
-) -> Result<Counts, Fault>
-where
-    P::Kind: Printable,
-    requires { Roomy (sheet_row (pair_row P.row Q.row) P.Kind.row ⟦<Pair<P, Q> as Automaton>⟧ P.Kind.Letter) }
-    ensures told { told P.Kind.Letter.alphabet.number P.Kind.Printable.printed result text.new ≡ (if nat_le ((P.Automaton.model left).count * (Q.Automaton.model right).count) 4096 then rewritten P.Kind.Letter.alphabet P.Kind.Printable.parsed P.Kind.Printable.printed (length work.old) (pair_model (P.Automaton.model left) (Q.Automaton.model right)) k trace.now text.old else Err (large_pair ((P.Automaton.model left).count * (Q.Automaton.model right).count))) }
-    ensures left { left_as result text.new work.new ≡ unless_refused (paired_up (P.Automaton.model left) (Q.Automaton.model right)) text.old work.old (λ m. rewritten_whole P.Kind.Letter.alphabet P.Kind.Printable.parsed m k trace.now text.old work.old) }
-{
-    let pair = Pair::new(left, right)?;
-    rewrite(pair, k, trace, text, work)
-}
-
-// The same under an automaton, and under the run automaton too where there is a limit.
+// The same under `automaton`, and under the run automaton too where there is a limit. It stands alone since the check does
+// not cover a body that keeps a `Limited` on the lent list.
 pub fn rewrite_limited<P: Automaton + Drop>(
     automaton: P,
     limit: Option<u16>,
@@ -76,11 +57,8 @@ where
     ensures told { told P.Kind.Letter.alphabet.number P.Kind.Printable.printed result text.new ≡ limited (P.model automaton) P.Kind.Letter.alphabet limit (λ m. rewritten P.Kind.Letter.alphabet P.Kind.Printable.parsed P.Kind.Printable.printed (length work.old) m k trace.now text.old) }
     ensures left { left_as result text.new work.new ≡ unless_refused (limited (P.model automaton) P.Kind.Letter.alphabet limit Ok) text.old work.old (λ m. rewritten_whole P.Kind.Letter.alphabet P.Kind.Printable.parsed m k trace.now text.old work.old) }
 {
-    match limit {
-        Some(r) => {
-            let run = Run::<P::Kind>::new(r)?;
-            rewrite_both(automaton, run, k, trace, text, work)
-        }
-        None => rewrite(automaton, k, trace, text, work),
+    match Limited::new(automaton, limit)? {
+        Limited::Alone(automaton) => rewrite(automaton, k, trace, text, work),
+        Limited::Both(pair) => rewrite(pair, k, trace, text, work),
     }
 }

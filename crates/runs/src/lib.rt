@@ -24,6 +24,7 @@ pub struct Run<L> {
     ghost most: { limit ≤ 8 },
 }
 
+// By hand: a derive is refused for a generic struct with a ghost field.
 impl<L> Clone for Run<L> {
     ghost is_clone = { λ x y. y ≡ x };
 
@@ -41,7 +42,7 @@ impl<L: Letter> Run<L> {
         ensures exactly { elim result [ Ok s ↦ OnlyShort (run_model L.Letter.alphabet s.limit) limit | Err f ↦ Unit {0} ] }
     {
         if limit < 1 || limit > LONGEST {
-            return Err(Fault::bad_limit(limit as usize));
+            return Err(Fault::BadLimit(limit as usize));
         }
         Ok(Run {
             limit,

@@ -1,5 +1,6 @@
 -- The law of a sheet holds. Assumes nothing.
 use Rattle.std.proofs.Common.{◌≡◌, ℕ, ◌+◌, ◌-◌, ◌<◌, ◌≤◌, true, false, List, [], ◌∷◌, ◌++◌, length, take, Some, None, Ok, Err, Option, Result, sym, refl, ap, ◌∙◌, subst, inl, inr, append-nil, arith, length-append}
+use Rattle.faults.specs.Causes.{number_of}
 use Rattle.std.proofs.lemmas.List.{drop_all, length-take-le}
 use Rattle.faults.specs.declared.Fault.{Fault}
 use Rattle.models.specs.Automaton.{Model, Lawful, Pass}
@@ -93,12 +94,12 @@ module _ {K : Type 0} (m : Model K) (number : K → ℕ) (k : ℕ) (row : List K
         refusals b g (Err q) (inl d) = absurd (omega (arith, d.0))
         refusals b g (Err q) (inr (inl d)) = absurd (omega (arith, d.1))
         refusals b g (Err q) (inr (inr (inl (free, whole, stuck, e)))) = record {
-          unjoinable = (λ _. none stuck, λ _. ap (λ f. f.number) e);
-          too_long = (λ z. absurd (omega (arith, ap (λ f. f.number) e)), λ c. absurd (none stuck c.0.0 c.0.1));
+          unjoinable = (λ _. none stuck, λ _. ap number_of e);
+          too_long = (λ z. absurd (omega (arith, ap number_of e)), λ c. absurd (none stuck c.0.0 c.0.1));
         }
         refusals b g (Err q) (inr (inr (inr (r, free, whole, here, over, e)))) = record {
-          unjoinable = (λ z. absurd (omega (arith, ap (λ f. f.number) e)), λ never. absurd (never (take n t ++ r) (best r here).0));
-          too_long = (λ _. ((take n t ++ r, (best r here).0), λ o c. omega (arith, (best r here).1 o c, long r)), λ _. ap (λ f. f.number) e);
+          unjoinable = (λ z. absurd (omega (arith, ap number_of e)), λ never. absurd (never (take n t ++ r) (best r here).0));
+          too_long = (λ _. ((take n t ++ r, (best r here).0), λ o c. omega (arith, (best r here).1 o c, long r)), λ _. ap number_of e);
         }
 
       -- what a kept letter appends

@@ -15,6 +15,7 @@
 --   Followed .. h s t      what holds after the calls h
 --   SheetLaw ..            it holds after every list of calls
 use Rattle.std.specs.Prelude.{◌≡◌, ℕ, ◌+◌, ◌-◌, ◌*◌, ◌<◌, ◌≤◌, ◌↔◌, List, [], ◌∷◌, ◌++◌, length, take, drop, Some, None, Ok, Err, Option, Result}
+use Rattle.faults.specs.Causes.{number_of}
 use Rattle.faults.specs.declared.Fault.{Fault}
 use Rattle.models.specs.Automaton.{Model, Lawful, Pass, last}
 use Rattle.models.specs.Strings.{Ends, Least}
@@ -35,7 +36,7 @@ Shortest {K} P s = P s × ((o : List K) → P o → length s ≤ length o)
 
 abbrev pub Refused : {A : Type 0} → ℕ → Result A Fault → Type 0
 Refused n (Ok a) = ⊥
-Refused n (Err f) = f.number ≡ n
+Refused n (Err f) = number_of f ≡ n
 
 -- with x, k letters would run since the opening or the last gap, and the window is these
 abbrev pub EndsWindow : {K : Type 0} → ℕ → List (Turn K) → K → List K → Type 0

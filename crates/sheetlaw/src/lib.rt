@@ -1,7 +1,8 @@
 // What a sheet is given and answers, as plain types; its law over every list of calls stands in specs/Law.antt.
 #![tactic(auto)]
 
-// What a sheet is given: a letter of the trace, or a gap where the reading is missing.
+// What a sheet is given: a letter of the trace, or a gap where the reading is missing. No `Option`, since a gap is a call of
+// its own and not the want of one.
 #[derive(Clone, Copy)]
 pub enum Event<L> {
     Letter(L),

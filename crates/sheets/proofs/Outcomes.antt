@@ -1,24 +1,21 @@
 -- What is left where a plan is carried out. Assumes nothing.
-use Rattle.std.proofs.Common.{◌≡◌, ℕ, ◌+◌, ◌-◌, ◌*◌, ◌<◌, ◌≤◌, List, length, Some, Ok, sym, ap, ◌∙◌, subst, arith}
+use Rattle.std.proofs.Common.{◌≡◌, ℕ, ◌+◌, ◌-◌, ◌*◌, ◌≤◌, List, length, Some, sym, ap, ◌∙◌, subst, arith}
 use Rattle.models.specs.Alphabet.{Alphabet}
-use Rattle.models.specs.Automaton.{Model}
 use Rattle.joinlaw.specs.Bridges.{row}
 use Rattle.joins.specs.Ways.{told}
 use Rattle.joins.specs.declared.ways.Way.{Way}
 use Rattle.joins.proofs.Writings.{added-row, added-few}
-use Rattle.sheetlaw.specs.Step.{Contents, window, answer, count, carry, append, write, decide}
-use Rattle.sheetlaw.specs.NextRow.{row_of}
-use Rattle.sheetlaw.proofs.Decisions.{Decided, decided}
+use Rattle.sheetlaw.specs.Step.{Contents, window, answer, count, carry}
 use Rattle.sheetlaw.specs.declared.Answer.TheVariants.{Kept}
 use Rattle.sheetlaw.specs.declared.Counts.{Counts}
 use Rattle.sheets.specs.Plans.{planned, Ready, Few, counted}
 use Rattle.sheets.specs.declared.plan.Plan.{Plan}
 use Rattle.sheets.specs.declared.plan.Plan.TheVariants.{Wait, Skip, Keep}
 
-pub ready_few : {K : Type 0} (A : Alphabet K) (p l : ℕ → ℕ) (n k : ℕ) (w : List K) (end room : ℕ) (o : Plan) → Ready A p l n k w end room o → n ≤ 4096 → k ≤ 12 → Few o
-ready_few A p l n k w end room Wait r h i = tt
-ready_few A p l n k w end room Skip r h i = tt
-ready_few A p l n k w end room (Keep way a) (long, fit, is, fits) h i = let few = added-few A p l n w way fit in omega arith
+pub ready_few : {K : Type 0} (A : Alphabet K) (k : ℕ) (w : List K) (end room : ℕ) (o : Plan) → Ready A k w end room o → k ≤ 12 → Few o
+ready_few A k w end room Wait r i = tt
+ready_few A k w end room Skip r i = tt
+ready_few A k w end room (Keep way a) (long, fit, is, fits) i = let few = added-few A w way fit in omega arith
 
 -- one more letter or gap is taken, so the counts stay within their bounds
 module _ (k : ℕ) (c d : Counts) (o : Plan) (t u : ℕ) (is : d ≡ counted k c o) (more : u ≡ t + 1) where
@@ -39,37 +36,24 @@ module _ (k : ℕ) (c d : Counts) (o : Plan) (t u : ℕ) (is : d ≡ counted k c
       by_plan (Keep way a) f = omega arith
 
 -- a window that is kept
-module _ {K : Type 0} (A : Alphabet K) (p l : ℕ → ℕ) (n k room : ℕ) (s : Contents K) (x : K) (o : Plan) (way : Way) (a : ℕ) (is : o ≡ Keep way a) (ready : Ready A p l n k (window k s x) s.counts.text room o) where
-  pub so : Ready A p l n k (window k s x) s.counts.text room (Keep way a)
-  so = subst (Ready A p l n k (window k s x) s.counts.text room) is ready
+module _ {K : Type 0} (A : Alphabet K) (k room : ℕ) (s : Contents K) (x : K) (o : Plan) (way : Way) (a : ℕ) (is : o ≡ Keep way a) (ready : Ready A k (window k s x) s.counts.text room o) where
+  pub so : Ready A k (window k s x) s.counts.text room (Keep way a)
+  so = subst (Ready A k (window k s x) s.counts.text room) is ready
 
   abbrev r : List K
-  r = row (told A p l way) (window k s x)
+  r = row (told A way) (window k s x)
 
   long : a ≡ length r
-  long = so.2 ∙ added-row A p l n (window k s x) way so.1
+  long = so.2 ∙ added-row A (window k s x) way so.1
 
-  pub kept-answer : Kept a (a - k) ≡ answer k (planned A p l (window k s x) o)
-  kept-answer = ap (λ i. Kept i (i - k)) long ∙ ap (λ q. answer k (planned A p l (window k s x) q)) (sym is)
+  pub kept-answer : Kept a (a - k) ≡ answer k (planned A (window k s x) o)
+  kept-answer = ap (λ i. Kept i (i - k)) long ∙ ap (λ q. answer k (planned A (window k s x) q)) (sym is)
 
   pub kept_leaves : (u : List K) (t : ℕ) (d : Counts) → u ≡ window k s x → t ≡ s.taken + 1 → d ≡ counted k s.counts o
-      → ◌≡◌ {A = Contents K} (record { running = u; latest = Some u; taken = t; counts = d }) (carry k s x (planned A p l (window k s x) o))
+      → ◌≡◌ {A = Contents K} (record { running = u; latest = Some u; taken = t; counts = d }) (carry k s x (planned A (window k s x) o))
   kept_leaves u t d e f g =
-      let counts : d ≡ count k s.counts (planned A p l (window k s x) (Keep way a)) = g ∙ ap (counted k s.counts) is ∙ ap (λ i. counted k s.counts (Keep way i)) long in
+      let counts : d ≡ count k s.counts (planned A (window k s x) (Keep way a)) = g ∙ ap (counted k s.counts) is ∙ ap (λ i. counted k s.counts (Keep way i)) long in
       ap (λ v. record { running = v; latest = Some v; taken = t; counts = d }) e
       ∙ ap (λ i. record { running = window k s x; latest = Some (window k s x); taken = i; counts = d }) f
       ∙ ap (λ c. record { running = window k s x; latest = Some (window k s x); taken = s.taken + 1; counts = c }) counts
-      ∙ ap (λ q. carry k s x (planned A p l (window k s x) q)) (sym is)
-
-  pub kept-writes : (v t t' : List K) → v ≡ window k s x → t' ≡ write s.counts.text (row (told A p l way) v) t → t' ≡ append s t (planned A p l (window k s x) o)
-  kept-writes v t t' e f =
-      f ∙ ap (λ u. write s.counts.text (row (told A p l way) u) t) e ∙ ap (λ q. append s t (planned A p l (window k s x) q)) (sym is)
-
--- what is planned is not refused, so fewer than 50,000 letters and gaps are taken
-pub plan_early : {K : Type 0} (A : Alphabet K) (m : Model K) (p l : ℕ → ℕ) (k work room : ℕ) (s : Contents K) (x : K) (w : List K) (o : Plan) → decide m k (row_of A m) work room s x ≡ Ok (planned A p l w o) → s.taken < 50000
-plan_early A m p l k work room s x w o e = by_plan o (subst (Decided m k (row_of A m) work room s x) e (decided m k (row_of A m) work room s x))
-  where
-    by_plan : (o : Plan) → Decided m k (row_of A m) work room s x (Ok (planned A p l w o)) → s.taken < 50000
-    by_plan Wait d = d.0.1
-    by_plan Skip d = d.0.1
-    by_plan (Keep way a) d = d.0.1
+      ∙ ap (λ q. carry k s x (planned A (window k s x) q)) (sym is)

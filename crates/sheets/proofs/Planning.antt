@@ -24,37 +24,37 @@ pub never_both : (b : Bool) → b ≡ true → b ≡ false → ⊥
 never_both b t f = let z : ◌≡◌ {A = ℕ} 0 1 = cc in omega arith
 
 -- a bridge that was found is the row
-pub way_row : {K : Type 0} (A : Alphabet K) (p l : ℕ → ℕ) (n : ℕ) (w : List K) (o : Option Way) (b : Option (Bridge K)) → WayIs A p l n (length w) o b → RowIs A p l n w o (appended_by b w)
-way_row A p l n w (Some way) b (e, f) = (ap (λ c. appended_by c w) e, f)
-way_row A p l n w None b e = ap (λ c. appended_by c w) e
+pub way_row : {K : Type 0} (A : Alphabet K) (w : List K) (o : Option Way) (b : Option (Bridge K)) → WayIs A (length w) o b → RowIs A w o (appended_by b w)
+way_row A w (Some way) b (e, f) = (ap (λ c. appended_by c w) e, f)
+way_row A w None b e = ap (λ c. appended_by c w) e
 
-module _ {K : Type 0} (A : Alphabet K) (m : Model K) (p l : ℕ → ℕ) (k room : ℕ) (s : Contents K) (x : K) (v : List K) (is : v ≡ window k s x) (early : s.taken < 50000) where
-  pub plan_wait : length v < k → PlanIs A p l m.count k (window k s x) s.counts.text room (Ok Wait) (decide m k (row_of A m) (needs m) room s x)
+module _ {K : Type 0} (A : Alphabet K) (m : Model K) (k room : ℕ) (s : Contents K) (x : K) (v : List K) (is : v ≡ window k s x) (early : s.taken < 50000) where
+  pub plan_wait : length v < k → PlanIs A k (window k s x) s.counts.text room (Ok Wait) (decide m k (row_of A m) (needs m) room s x)
   plan_wait lt =
       let short : length (window k s x) < k = subst (λ w. length w < k) is lt in
       (decide-wait m k (row_of A m) (needs m) room s x (omega arith) early short, short)
 
-  module _ (long : length v ≡ k) (passing : passes m v ≡ true) (way : Way) (told-row : RowIs A p l m.count v (Some way) (row_to (row_of A m) s.latest v)) (a : ℕ) (a-is : a ≡ added (length v) way) where
+  module _ (long : length v ≡ k) (passing : passes m v ≡ true) (way : Way) (told-row : RowIs A v (Some way) (row_to (row_of A m) s.latest v)) (a : ℕ) (a-is : a ≡ added (length v) way) where
     whole : k ≤ length (window k s x)
     whole = subst (λ w. k ≤ length w) is (omega arith)
 
     passes_now : passes m (window k s x) ≡ true
     passes_now = ap (passes m) (sym is) ∙ passing
 
-    here : row_to (row_of A m) s.latest (window k s x) ≡ Some (row (told A p l way) v)
+    here : row_to (row_of A m) s.latest (window k s x) ≡ Some (row (told A way) v)
     here = ap (row_to (row_of A m) s.latest) (sym is) ∙ told-row.0
 
-    end_row : s.counts.text + length (row (told A p l way) v) ≡ s.counts.text + a
-    end_row = ap (λ i. s.counts.text + i) (sym (added-row A p l m.count v way told-row.1) ∙ sym a-is)
+    end_row : s.counts.text + length (row (told A way) v) ≡ s.counts.text + a
+    end_row = ap (λ i. s.counts.text + i) (sym (added-row A v way told-row.1) ∙ sym a-is)
 
     pub plan_long : room < s.counts.text + a → decide m k (row_of A m) (needs m) room s x ≡ Err (short_text (s.counts.text + a))
     plan_long lt =
-        decide-long m k (row_of A m) (needs m) room s x (omega arith) early whole passes_now (row (told A p l way) v) here (subst (λ i. room < i) (sym end_row) lt)
+        decide-long m k (row_of A m) (needs m) room s x (omega arith) early whole passes_now (row (told A way) v) here (subst (λ i. room < i) (sym end_row) lt)
         ∙ ap (λ i. Err (short_text i)) end_row
 
-    pub plan_keep : s.counts.text + a ≤ room → PlanIs A p l m.count k (window k s x) s.counts.text room (Ok (Keep way a)) (decide m k (row_of A m) (needs m) room s x)
+    pub plan_keep : s.counts.text + a ≤ room → PlanIs A k (window k s x) s.counts.text room (Ok (Keep way a)) (decide m k (row_of A m) (needs m) room s x)
     plan_keep le =
-        subst (λ w. (decide m k (row_of A m) (needs m) room s x ≡ Ok (keep w (row (told A p l way) w))) × ((length w ≡ k) × Fit A p l m.count (length w) way × (a ≡ added (length w) way) × (s.counts.text + a ≤ room))) is (
-          decide-keep m k (row_of A m) (needs m) room s x (omega arith) early whole passes_now (row (told A p l way) v) here (subst (λ i. i ≤ room) (sym end_row) le) ∙ ap (λ w. Ok (keep w (row (told A p l way) v))) (sym is),
+        subst (λ w. (decide m k (row_of A m) (needs m) room s x ≡ Ok (keep w (row (told A way) w))) × ((length w ≡ k) × Fit A (length w) way × (a ≡ added (length w) way) × (s.counts.text + a ≤ room))) is (
+          decide-keep m k (row_of A m) (needs m) room s x (omega arith) early whole passes_now (row (told A way) v) here (subst (λ i. i ≤ room) (sym end_row) le) ∙ ap (λ w. Ok (keep w (row (told A way) v))) (sym is),
           (long, told-row.1, a-is, le),
         )

@@ -1,7 +1,6 @@
 -- The running window with a letter more. Assumes nothing.
 use Rattle.std.proofs.Common.{◌≡◌, ℕ, ◌+◌, ◌-◌, ◌<◌, ◌≤◌, List, [], ◌∷◌, ◌++◌, length, get_or, take, drop, set, sym, ap, ◌∙◌, subst, arith, length-drop}
-use Rattle.std.proofs.lemmas.List.{drop-set-lt, take_more, take_more_set, get_or-drop, drop-append-le, drop-take, drop-drop, length_push}
-use Rattle.models.specs.Automaton.{last}
+use Rattle.std.proofs.lemmas.List.{drop-set-lt, take_more, take_more_set, get_or-drop, drop-take, drop-drop}
 
 module _ {K : Type 0} where
   -- one letter moved to the front; those after it are as they were
@@ -33,12 +32,3 @@ module _ {K : Type 0} where
       ap (λ j. take j (set run (n - 1) x)) n'
       ∙ take_more_set run (n - 1) x (omega arith)
       ∙ ap (λ t. t ++ x ∷ []) (moved ∙ sym (drop-take 1 (n - 1) old) ∙ ap (λ j. drop 1 (take j old)) (sym n''))
-
-  -- with fewer than k letters before, and with k
-  pub last_short : (k : ℕ) (w : List K) (x : K) → length w < k → w ++ x ∷ [] ≡ last k (w ++ x ∷ [])
-  last_short k w x h = let z : length (w ++ x ∷ []) - k ≡ 0 = simp length_push (omega arith) in rw z
-
-  pub last-full : (k : ℕ) (w : List K) (x : K) → 1 ≤ k → length w ≡ k → drop 1 w ++ x ∷ [] ≡ last k (w ++ x ∷ [])
-  last-full k w x o h =
-      let one : length (w ++ x ∷ []) - k ≡ 1 = simp length_push (omega arith) in
-      sym (drop-append-le 1 w (x ∷ []) (omega arith)) ∙ ap (λ j. drop j (w ++ x ∷ [])) (sym one)

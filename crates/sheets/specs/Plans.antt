@@ -1,11 +1,10 @@
 -- What was decided for a letter, with the row of a kept window left in the tables of the search. Assumes nothing.
 --
--- Tables by place in the queue: p has the place of the state that led to it, l the number of the letter between them.
---   planned A p l w o      the outcome that the plan o tells, for the window w
---   Ready .. o             the plan o can be carried out: from tables of n places, for a window w where k letters make one,
---                          in a text table with so much room, from the place end on
+--   planned A w o          the outcome that the plan o tells, for the window w
+--   Ready .. o             the plan o can be carried out: for a window w where k letters make one, in a text table with so
+--                          much room, from the place end on
 --   PlanIs .. r d          r tells the decision d, and can be carried out; or it is refused as d is
---   RowIs A p l n w r o    r tells the row o to the window w, and can be written; or there is none
+--   RowIs A w r o          r tells the row o to the window w, and can be written; or there is none
 --   counted k c o          the counts c after the plan o
 --   moved k s e            the contents s after the letter or gap e, before anything is kept or counted
 use Rattle.std.specs.Prelude.{◌≡◌, ℕ, ◌+◌, ◌-◌, ◌<◌, ◌≤◌, List, [], length, Some, None, Ok, Err, Option, Result}
@@ -21,24 +20,24 @@ use Rattle.sheetlaw.specs.declared.Event.TheVariants.{Letter, Gap}
 use Rattle.sheets.specs.declared.plan.Plan.{Plan}
 use Rattle.sheets.specs.declared.plan.Plan.TheVariants.{Wait, Skip, Keep}
 
-module _ {K : Type 0} (A : Alphabet K) (p l : ℕ → ℕ) where
+module _ {K : Type 0} (A : Alphabet K) where
   abbrev pub planned : List K → Plan → Outcome K
   planned w Wait = wait
   planned w Skip = skip
-  planned w (Keep way n) = keep w (row (told A p l way) w)
+  planned w (Keep way n) = keep w (row (told A way) w)
 
-  abbrev pub Ready : (n k : ℕ) → List K → (end room : ℕ) → Plan → Type 0
-  Ready n k w end room Wait = length w < k
-  Ready n k w end room Skip = length w ≡ k
-  Ready n k w end room (Keep way a) = (length w ≡ k) × Fit A p l n (length w) way × (a ≡ added (length w) way) × (end + a ≤ room)
+  abbrev pub Ready : (k : ℕ) → List K → (end room : ℕ) → Plan → Type 0
+  Ready k w end room Wait = length w < k
+  Ready k w end room Skip = length w ≡ k
+  Ready k w end room (Keep way a) = (length w ≡ k) × Fit A (length w) way × (a ≡ added (length w) way) × (end + a ≤ room)
 
-  abbrev pub PlanIs : (n k : ℕ) → List K → (end room : ℕ) → Result Plan Fault → Result (Outcome K) Fault → Type 0
-  PlanIs n k w end room (Ok o) d = (d ≡ Ok (planned w o)) × Ready n k w end room o
-  PlanIs n k w end room (Err f) d = d ≡ Err f
+  abbrev pub PlanIs : (k : ℕ) → List K → (end room : ℕ) → Result Plan Fault → Result (Outcome K) Fault → Type 0
+  PlanIs k w end room (Ok o) d = (d ≡ Ok (planned w o)) × Ready k w end room o
+  PlanIs k w end room (Err f) d = d ≡ Err f
 
-  abbrev pub RowIs : ℕ → List K → Option Way → Option (List K) → Type 0
-  RowIs n w (Some way) o = (o ≡ Some (row (told A p l way) w)) × Fit A p l n (length w) way
-  RowIs n w None o = o ≡ None
+  abbrev pub RowIs : List K → Option Way → Option (List K) → Type 0
+  RowIs w (Some way) o = (o ≡ Some (row (told A way) w)) × Fit A (length w) way
+  RowIs w None o = o ≡ None
 
 abbrev pub counted : ℕ → Counts → Plan → Counts
 counted k c Wait = record { letters = c.letters + 1; kept = c.kept; skipped = c.skipped; text = c.text; filled = c.filled }

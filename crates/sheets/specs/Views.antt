@@ -1,11 +1,12 @@
 -- A sheet as the definitions of a call have it. Assumes nothing.
 --
 --   contents s            what the sheet s holds
+--   Keeps s t             the sheet t has the window length and the automaton of the sheet s
 --   Stands A model t0 h s t
 --                         the law holds of the sheet s and the text table t, which first held t0, after the calls h
 --   answered, left_in, written_to
 --                         what the letter x answers, and what it leaves in the sheet s and in the table t
-use Rattle.std.specs.Prelude.{ℕ, List, Result}
+use Rattle.std.specs.Prelude.{◌≡◌, ℕ, List, Result}
 use Rattle.faults.specs.declared.Fault.{Fault}
 use Rattle.models.specs.Alphabet.{Alphabet}
 use Rattle.models.specs.Automaton.{Model}
@@ -19,6 +20,9 @@ use Rattle.sheets.specs.declared.sheet.Sheet.{Sheet}
 
 abbrev pub contents : {V K : Type 0} {gv : _} {gk : _} → Sheet V K gv gk → Contents K
 contents s = record { running = shown s.running; latest = latest s.stage; taken = s.taken; counts = s.counts }
+
+abbrev pub Keeps : {V K : Type 0} {gv : _} {gk : _} → Sheet V K gv gk → Sheet V K gv gk → Type 0
+Keeps s t = (t.k ≡ s.k) × (t.automaton ≡ s.automaton)
 
 module _ {V K : Type 0} (A : Alphabet K) (model : V → Model K) where
   abbrev pub Stands : {gv : _} {gk : _} → List K → List (Turn K) → Sheet V K gv gk → List K → Type 0

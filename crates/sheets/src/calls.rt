@@ -3,7 +3,7 @@
 ghost use Rattle.std.specs.Prelude.{◌≡◌, ℕ, ◌*◌, List, [], ◌∷◌, length, replicate, Ok, Err, MatchResult};
 ghost use Rattle.sheetlaw.specs.Calls.{Turn, gap as paused, letter as given, tally};
 ghost use Rattle.sheetlaw.specs.Step.{opening, pauses, leaves_gap, needs, cleared, close as close_of};
-ghost use Rattle.sheets.specs.Views.{contents, Stands, answered, left_in, written_to};
+ghost use Rattle.sheets.specs.Views.{contents, Keeps, Stands, answered, left_in, written_to};
 
 use crate::deciding::MOST;
 use crate::sheet::Sheet;
@@ -25,16 +25,13 @@ impl<S: Automaton> Sheet<S> {
     {
         let k = k as usize;
         if k < 2 || k > 12 {
-            return Err(Fault::bad_window(k));
+            return Err(Fault::BadWindow(k));
         }
         let memory = automaton.memory() as usize;
         if memory > k {
-            return Err(Fault::long_memory(memory));
+            return Err(Fault::LongMemory(memory));
         }
-        let blank = match S::Kind::from_number(0) {
-            Some(letter) => letter,
-            None => unreachable(),
-        };
+        let blank = S::Kind::from_number(0).unwrap();
         Ok(Sheet {
             automaton,
             k,
@@ -51,28 +48,7 @@ impl<S: Automaton> Sheet<S> {
         })
     }
 
-    // A letter over words that are as many as the search needs.
-    fn take(
-        &mut self,
-        letter: S::Kind,
-        text: &mut [S::Kind],
-        words: &mut [u16],
-    ) -> Result<Answer, Fault>
-        requires { length words.old ≡ 4 * (S.model self.old.automaton).count }
-        ensures answers { result ≡ answered S.Kind.Letter.alphabet S.model self.old letter (length words.old) (length text.old) }
-        ensures leaves { contents self.new ≡ left_in S.Kind.Letter.alphabet S.model self.old letter (length words.old) (length text.old) }
-        ensures writes { text.new ≡ written_to S.Kind.Letter.alphabet S.model self.old letter (length words.old) text.old }
-        ensures keeps { (self.new.k ≡ self.old.k) × (self.new.automaton ≡ self.old.automaton) }
-    {
-        let n = self.automaton.states() as usize;
-        let (seen, rest) = words.split_at_mut(n);
-        let (queue, rest) = rest.split_at_mut(n);
-        let (parents, letters) = rest.split_at_mut(n);
-        let plan = self.decide(letter, text.len(), seen, queue, parents, letters)?;
-        Ok(self.carry_out(letter, plan, text, parents, letters))
-    }
-
-    // The same, and the words are zero afterwards.
+    // A letter over words that are as many as the search needs, and zero afterwards.
     fn within(
         &mut self,
         letter: S::Kind,
@@ -84,10 +60,11 @@ impl<S: Automaton> Sheet<S> {
         ensures leaves { contents self.new ≡ left_in S.Kind.Letter.alphabet S.model self.old letter (length words.old) (length text.old) }
         ensures writes { text.new ≡ written_to S.Kind.Letter.alphabet S.model self.old letter (length words.old) text.old }
         ensures words { words.new ≡ replicate (length words.old) 0 }
-        ensures keeps { (self.new.k ≡ self.old.k) × (self.new.automaton ≡ self.old.automaton) }
+        ensures keeps { Keeps self.old self.new }
     {
         let marks = Marks { words };
-        self.take(letter, text, marks.words)
+        let plan = self.decide(letter, text.len(), marks.words)?;
+        Ok(self.carry_out(letter, plan, text))
     }
 
     // Takes a letter of the trace. The text table gets the letters appended from the text's end on; any work table will
@@ -102,12 +79,13 @@ impl<S: Automaton> Sheet<S> {
         ensures leaves { contents self.new ≡ left_in S.Kind.Letter.alphabet S.model self.old letter (length work.old) (length text.old) }
         ensures writes { text.new ≡ written_to S.Kind.Letter.alphabet S.model self.old letter (length work.old) text.old }
         ensures work { work.new ≡ cleared (needs (S.model self.old.automaton)) work.old }
-        ensures keeps { (self.new.k ≡ self.old.k) × (self.new.automaton ≡ self.old.automaton) }
+        ensures keeps { Keeps self.old self.new }
         ensures stands { (t0 : List S.Kind) (h : List (Turn S.Kind)) → Stands S.Kind.Letter.alphabet S.model t0 h self.old text.old → Stands S.Kind.Letter.alphabet S.model t0 (given letter work.old result work.new ∷ h) self.new text.new }
     {
+        // A helper for the next lines would give back a part of the table, and have to promise what is written through it.
         let needed = 4 * self.automaton.states() as usize;
         if work.len() < needed {
-            return Err(Fault::short_work(needed));
+            return Err(Fault::ShortWork(needed));
         }
         self.within(letter, text, &mut work[0..needed])
     }
@@ -116,11 +94,11 @@ impl<S: Automaton> Sheet<S> {
     pub fn gap(&mut self) -> Result<(), Fault>
         ensures answers { result ≡ pauses (contents self.old) }
         ensures leaves { contents self.new ≡ leaves_gap (contents self.old) }
-        ensures keeps { (self.new.k ≡ self.old.k) × (self.new.automaton ≡ self.old.automaton) }
+        ensures keeps { Keeps self.old self.new }
         ensures stands { (t0 : List S.Kind) (h : List (Turn S.Kind)) (t : List S.Kind) → Stands S.Kind.Letter.alphabet S.model t0 h self.old t → Stands S.Kind.Letter.alphabet S.model t0 (paused result ∷ h) self.new t }
     {
         if self.taken >= MOST {
-            return Err(Fault::full_sheet());
+            return Err(Fault::FullSheet);
         }
         self.advance(Event::Gap);
         Ok(())

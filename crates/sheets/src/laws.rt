@@ -6,8 +6,6 @@ use letters::Letter;
 
 // What each call answers and leaves is what the definitions of a call give; the text is shortest among the strings that
 // pass and have the kept windows in order; 8 and 9 come exactly when they must; the counts are those of the calls.
-pub fn sheet_law<K: Letter>() -> u8
+pub fn sheet_law<K: Letter>()
     ensures { EverySheet K.alphabet }
-{
-    0
-}
+{}

@@ -6,21 +6,21 @@ use joins::Way;
 use sheetlaw::Counts;
 
 #[derive(Clone, Copy)]
-pub enum Plan {
+pub enum Plan<'w> {
     // Fewer than k letters run then.
     Wait,
     // The k letters do not pass alone.
     Skip,
     // The window is kept: the way to it, and the letters appended for it.
-    Keep { way: Way, appended: usize },
+    Keep { way: Way<'w>, appended: usize },
 }
 
-impl Plan {
+impl Plan<'_> {
     // The counts after it.
     pub fn count(self, k: usize, counts: Counts) -> Counts
         requires few { Few self }
         requires small { (counts.letters < 2 ^ 62) × ((counts.kept < 2 ^ 62) × ((counts.skipped < 2 ^ 62) × ((counts.text < 2 ^ 62) × (counts.filled < 2 ^ 62)))) }
-        ensures { result ≡ counted k counts self }
+        ensures { result ≡ counted k counts self.entry }
     {
         let letters = counts.letters + 1;
         match self {

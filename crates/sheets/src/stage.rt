@@ -25,8 +25,7 @@ impl<L: Copy> Stage<L> {
     {
         match self {
             Stage::Opening | Stage::Seeking => None,
-            Stage::Resuming(window) => Some(window),
-            Stage::Going(window) => Some(window),
+            Stage::Resuming(window) | Stage::Going(window) => Some(window),
         }
     }
 }

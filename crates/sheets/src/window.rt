@@ -3,7 +3,8 @@ ghost use Rattle.std.specs.Prelude.{◌≡◌, ℕ, ◌+◌, ◌<◌, ◌≤◌,
 
 use std::alloc::AllocError;
 
-// The first `held` letters are the window; the others are never read.
+// The first `held` letters are the window; the others are never read. It is an array with its length beside it since
+// a window is `Copy` and there is no heap.
 #[derive(Copy)]
 pub struct Window<L> {
     pub(crate) letters: [L; 12],
@@ -12,6 +13,7 @@ pub struct Window<L> {
     ghost fits: { held ≤ 12 },
 }
 
+// A derive of `Clone` is refused for a generic struct with a ghost field.
 impl<L: Copy> Clone for Window<L> {
     ghost is_clone = { λ x y. y ≡ x };
 
@@ -57,11 +59,8 @@ impl<L: Copy> Window<L> {
         ensures letters { take self.new.held self.new.letters ≡ drop 1 (take self.old.held self.old.letters) ++ letter ∷ [] }
         ensures held { self.new.held ≡ self.old.held }
     {
-        let end = self.held - 1;
-        for i in 0..end {
-            self.letters[i] = self.letters[i + 1];
-        }
-        self.letters[end] = letter;
+        self.letters.copy_within(1..self.held, 0);
+        self.letters[self.held - 1] = letter;
     }
 
     // No letters.

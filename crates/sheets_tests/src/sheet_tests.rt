@@ -12,13 +12,6 @@ fn opened(limit: u16, k: u16) -> Result<Sheet<Run<Two>>, Fault> {
     Sheet::open(Run::<Two>::new(limit)?, k)
 }
 
-fn refused<T: Drop>(made: Result<T, Fault>) -> Option<Fault> {
-    match made {
-        Ok(_) => None,
-        Err(fault) => Some(fault),
-    }
-}
-
 // Gives the letters of a trace; the last answer.
 fn give<S: Automaton>(
     sheet: &mut Sheet<S>,
@@ -36,13 +29,13 @@ fn give<S: Automaton>(
 #[test]
 fn the_window_length_is_2_to_12_and_the_memory_at_most_that(rt: HostRuntime) {
     for k in [2, 3, 11, 12] {
-        assert_eq!(rt; refused(opened(2, k)), None);
+        assert_eq!(rt; opened(2, k).err(), None);
     }
     for k in [0, 1, 13, 9999] {
-        assert_eq!(rt; refused(opened(8, k)), Some(Fault::bad_window(k as usize)));
+        assert_eq!(rt; opened(8, k).err(), Some(Fault::BadWindow(k as usize)));
     }
-    assert_eq!(rt; refused(opened(4, 4)), None);
-    assert_eq!(rt; refused(opened(5, 4)), Some(Fault::long_memory(5)));
+    assert_eq!(rt; opened(4, 4).err(), None);
+    assert_eq!(rt; opened(5, 4).err(), Some(Fault::LongMemory(5)));
 }
 
 #[test]
@@ -104,8 +97,8 @@ fn a_first_window_needs_a_text_table_of_its_length(rt: HostRuntime) -> Result<()
     let mut none: [Two; 0] = [];
     let mut short = [Two::A; 3];
     let mut whole = [Two::A; 4];
-    assert_eq!(rt; refused(window(&mut none)), Some(Fault::short_text(4)));
-    assert_eq!(rt; refused(window(&mut short)), Some(Fault::short_text(4)));
+    assert_eq!(rt; window(&mut none).err(), Some(Fault::ShortText(4)));
+    assert_eq!(rt; window(&mut short).err(), Some(Fault::ShortText(4)));
     assert_eq!(rt;
         window(&mut whole)?,
         Answer::Kept {
@@ -122,8 +115,8 @@ fn a_short_work_table_is_refused_and_left(rt: HostRuntime) -> Result<(), Fail> {
     let mut text = [Two::B; 2];
     let mut work = [7u16; 20];
     assert_eq!(rt;
-        refused(sheet.letter(Two::A, &mut text, &mut work[0..19])),
-        Some(Fault::short_work(20))
+        sheet.letter(Two::A, &mut text, &mut work[0..19]).err(),
+        Some(Fault::ShortWork(20))
     );
     for word in work {
         assert_eq!(rt; word, 7);
@@ -200,10 +193,10 @@ fn at_most_50000_letters_and_gaps_are_taken(rt: HostRuntime) -> Result<(), Fail>
         sheet.gap()?;
     }
     sheet.gap()?;
-    assert_eq!(rt; refused(sheet.gap()), Some(Fault::full_sheet()));
+    assert_eq!(rt; sheet.gap().err(), Some(Fault::FullSheet));
     assert_eq!(rt;
-        refused(sheet.letter(Two::A, &mut text, &mut work)),
-        Some(Fault::full_sheet())
+        sheet.letter(Two::A, &mut text, &mut work).err(),
+        Some(Fault::FullSheet)
     );
     assert_eq!(rt; sheet.close().letters, 0);
     Ok(())

@@ -22,7 +22,7 @@ use Rattle.stations.specs.declared.Stage.{Stage}
 use Rattle.stations.specs.declared.Stage.TheVariants.{Named, Windowed, Limited, Listing}
 use Rattle.stations.specs.declared.Form.{Form}
 use Rattle.stations.specs.declared.Part.{Part}
-use Rattle.stations.specs.declared.Part.TheVariants.{Nothing, Pattern, Trace}
+use Rattle.stations.specs.declared.Part.TheVariants.{Pattern, Trace}
 
 abbrev pub Item : Type 0
 Item = Result Said Fault
@@ -85,10 +85,10 @@ pub data Handed : Type 0 where
   a_pattern : List ℕ → Handed
   the_trace : List ℕ → Handed
 
-abbrev pub handed : Part → Handed
-handed Nothing = nothing
-handed (Pattern x) = a_pattern x.now
-handed (Trace x) = the_trace x.now
+abbrev pub handed : Option Part → Handed
+handed None = nothing
+handed (Some (Pattern x)) = a_pattern x.now
+handed (Some (Trace x)) = the_trace x.now
 
 -- `k` comes right after the kind, `r` before the patterns, and each at most once
 abbrev pub before_window : Stage → Bool

@@ -4,7 +4,7 @@
 ghost use Rattle.std.specs.Prelude.{◌≡◌, ◌+◌, Some, None, Ok, Err};
 ghost use Rattle.files.specs.Lines.{items, meant, meant_line};
 ghost use Rattle.files.specs.Fields.{read};
-ghost use Rattle.stations.specs.Stations.{kind_named, first_line, last_line, headed, head_left, take_line, handed, ended, tail_left, early as too_early, bind, well_formed};
+ghost use Rattle.stations.specs.Stations.{kind_named, first_line, last_line, headed, head_left, take_line, handed, ended, tail_left, early as too_early, well_formed};
 
 use faults::Fault;
 use files::refusals::at_line;
@@ -35,15 +35,15 @@ pub struct Form {
     pub limit: Option<u16>,
 }
 
-// What a line hands on to whoever reads the file: nothing, a pattern or the trace, as parts of the input.
+// What a line may hand on to whoever reads the file: a pattern or the trace, as parts of the input.
 #[derive(Clone, Copy)]
 pub enum Part<'a> {
-    Nothing,
     Pattern(&'a [u8]),
     Trace(&'a [u8]),
 }
 
-// The kind that the content of a kind line names.
+// The kind that the content of a kind line names. One caller wants an `Option` of it; a `TryFrom` would be the same table with
+// an error of its own.
 fn kind_of(content: &[u8]) -> Option<Kind>
     ensures { result ≡ kind_named content.now }
 {
@@ -59,10 +59,7 @@ fn kind_of(content: &[u8]) -> Option<Kind>
 fn number(content: &[u8]) -> Result<u16, Fault>
     ensures { result ≡ well_formed (read 4 content.now) }
 {
-    match read_four(content) {
-        Some(n) => Ok(n),
-        None => Err(Fault::broken_file()),
-    }
+    read_four(content).ok_or(Fault::BrokenFile)
 }
 
 // A line before the kind is named: a remark, or the kind.
@@ -71,11 +68,8 @@ fn opening(line: Line<'_>) -> Result<Option<Kind>, Fault>
 {
     match line {
         Line::Remark(_) => Ok(None),
-        Line::Setting(Name::Kind, content) => match kind_of(content) {
-            Some(kind) => Ok(Some(kind)),
-            None => Err(Fault::broken_file()),
-        },
-        _ => Err(Fault::broken_file()),
+        Line::Setting(Name::Kind, content) => Ok(Some(kind_of(content).ok_or(Fault::BrokenFile)?)),
+        _ => Err(Fault::BrokenFile),
     }
 }
 
@@ -85,7 +79,7 @@ fn closing(line: Line<'_>) -> Result<(), Fault>
 {
     match line {
         Line::Remark(_) => Ok(()),
-        _ => Err(Fault::broken_file()),
+        _ => Err(Fault::BrokenFile),
     }
 }
 
@@ -102,43 +96,29 @@ impl Form {
     }
 
     // One more line after the kind line, up to the trace.
-    pub fn take<'a>(&mut self, line: Line<'a>) -> Result<Part<'a>, Fault>
+    pub fn take<'a>(&mut self, line: Line<'a>) -> Result<Option<Part<'a>>, Fault>
         ensures { elim result [ Ok p ↦ take_line self.old (meant_line line.entry) ≡ Ok (self.new, handed p) | Err f ↦ (take_line self.old (meant_line line.entry) ≡ Err f) × (self.new ≡ self.old) ] }
     {
         match (self.stage, line) {
-            (_, Line::Remark(_)) => Ok(Part::Nothing),
+            (_, Line::Remark(_)) => Ok(None),
             (Stage::Named, Line::Setting(Name::Window, content)) => {
                 self.window = Some(number(content)?);
                 self.stage = Stage::Windowed;
-                Ok(Part::Nothing)
+                Ok(None)
             }
             (Stage::Named | Stage::Windowed, Line::Setting(Name::Limit, content)) => {
                 self.limit = Some(number(content)?);
                 self.stage = Stage::Limited;
-                Ok(Part::Nothing)
+                Ok(None)
             }
             (_, Line::Pattern(content)) => {
                 self.stage = Stage::Listing;
-                Ok(Part::Pattern(content))
+                Ok(Some(Part::Pattern(content)))
             }
-            (_, Line::Trace(content)) => Ok(Part::Trace(content)),
-            _ => Err(Fault::broken_file()),
+            (_, Line::Trace(content)) => Ok(Some(Part::Trace(content))),
+            _ => Err(Fault::BrokenFile),
         }
     }
-}
-
-// What the next line says before the kind is named.
-fn first(line: Result<Line<'_>, Fault>) -> Result<Option<Kind>, Fault>
-    ensures { result ≡ bind (meant line.entry) first_line }
-{
-    opening(line?)
-}
-
-// What the next line says after the trace.
-fn last(line: Result<Line<'_>, Fault>) -> Result<(), Fault>
-    ensures { result ≡ bind (meant line.entry) last_line }
-{
-    closing(line?)
 }
 
 // Reads up to the kind line, and answers the kind that it names.
@@ -147,7 +127,7 @@ pub fn header(lines: &mut Lines<'_>) -> Result<Kind, Refusal>
     ensures left { (lines.new.number + 1, items lines.new.rest.now) ≡ head_left (lines.old.number + 1) (items lines.old.rest.now) }
 {
     while let Some(line) = lines.next_line() {
-        if let Some(kind) = at_line(first(line), lines.number())? {
+        if let Some(kind) = at_line(line.and_then(opening), lines.number())? {
             return Ok(kind);
         }
     }
@@ -160,7 +140,7 @@ pub fn tail(lines: &mut Lines<'_>) -> Result<(), Refusal>
     ensures left { (lines.new.number + 1, items lines.new.rest.now) ≡ tail_left (lines.old.number + 1) (items lines.old.rest.now) }
 {
     while let Some(line) = lines.next_line() {
-        at_line(last(line), lines.number())?;
+        at_line(line.and_then(closing), lines.number())?;
     }
     Ok(())
 }
@@ -170,7 +150,7 @@ pub fn early() -> Refusal
     ensures { result ≡ too_early }
 {
     Refusal {
-        fault: Fault::broken_file(),
+        fault: Fault::BrokenFile,
         line: 0,
     }
 }

@@ -23,7 +23,8 @@ use Rattle.drives.specs.Traces.{brought, left_over}
 use Rattle.stepping.specs.Replies.{step_lines, all_taken}
 use Rattle.stepping.specs.Steps.{Steps, calls_of, followed, Law}
 use Rattle.stepping.specs.OnSheets.{calls_after}
-use Rattle.stepping.specs.Outcomes.{Report, Told, concluded, file_lines, sheet_lines, text_lines, end_lines}
+use Rattle.headings.specs.Headings.{heading_lines}
+use Rattle.stepping.specs.Outcomes.{Report, Told, concluded, sheet_lines, text_lines, end_lines}
 use Rattle.stepping.proofs.Traces.{length-brought, length-turns}
 
 -- a sheet s that was opened on the automaton v with windows of k letters, and s' after the letters and gaps es
@@ -59,7 +60,7 @@ module _ {V K : Type 0} {gv : _} {gk : _} (A : Alphabet K) (printed : ℕ → �
 
     -- from what the calls on the way ensure
     pub told-followed : (kind : Kind) (n : ℕ) (r : Option ℕ) (size states memory : ℕ) (p p1 p2 p3 p4 : Page) (w' : List ℕ) (answer : Bool) (c : Counts)
-        → Wrote p p1 (file_lines kind n r) → states ≡ (M v).count → memory ≡ (M v).memory → Wrote p1 p2 (sheet_lines states memory k size)
+        → Wrote p p1 (heading_lines kind n r) → states ≡ (M v).count → memory ≡ (M v).memory → Wrote p1 p2 (sheet_lines states memory k size)
         → Wrote p2 p3 (step_lines A printed (take (length es) (calls_after A M s w es t []))) → answer ≡ all_taken (take (length es) (calls_after A M s w es t []))
         → w' ≡ left_over (needs (M s.automaton)) w es
         → c ≡ tally (M s'.automaton) s'.k (calls_after A M s w es t []) → Wrote p3 p4 (text_lines A printed (take c.text t') c)

@@ -1,20 +1,18 @@
 -- One letter or gap more of a trace whose calls are written. Assumes nothing.
-use Rattle.std.proofs.Common.{◌≡◌, ℕ, suc, ◌+◌, ◌<◌, ◌≤◌, Bool, true, ◌&&◌, List, [], ◌∷◌, ◌++◌, length, get_or, take, Some, None, Option, Result, sym, refl, ap, ◌∙◌, subst, append-nil, add-one, arith}
+use Rattle.std.proofs.Common.{◌≡◌, ℕ, suc, ◌+◌, ◌<◌, ◌≤◌, Bool, true, ◌&&◌, List, [], ◌∷◌, ◌++◌, length, get_or, take, Some, None, Option, sym, refl, ap, ◌∙◌, subst, append-nil, add-one, arith}
 use Rattle.std.proofs.lemmas.List.{take_more, length_push, length-take-le}
-use Rattle.faults.specs.declared.Fault.{Fault}
 use Rattle.models.specs.Alphabet.{Alphabet}
 use Rattle.models.specs.Automaton.{Model}
 use Rattle.pages.specs.Pages.{Holds, Wrote}
 use Rattle.pages.specs.declared.Page.{Page}
 use Rattle.pages.proofs.Writes.{wrote_then}
-use Rattle.sheetlaw.specs.Calls.{Turn, letter, gap}
+use Rattle.sheetlaw.specs.Calls.{Turn}
 use Rattle.sheetlaw.specs.Step.{needs, answers, cleared, pauses}
 use Rattle.sheetlaw.specs.Runs.{turn, turns}
 use Rattle.sheetlaw.specs.NextRow.{row_of}
-use Rattle.sheetlaw.specs.declared.Answer.{Answer}
 use Rattle.sheetlaw.specs.declared.Event.{Event}
 use Rattle.sheetlaw.specs.declared.Event.TheVariants.{Letter, Gap}
-use Rattle.sheets.specs.Views.{contents, Stands, answered}
+use Rattle.sheets.specs.Views.{contents, Stands}
 use Rattle.sheets.specs.declared.sheet.Sheet.{Sheet}
 use Rattle.drives.specs.Traces.{brought, left_over}
 use Rattle.drives.proofs.Givings.{left_over-more, next-letter, next-gap}
@@ -58,15 +56,6 @@ left_over_one n work es Gap = left_over-more n work es Gap
 
 wrote_none : (p : Page) → Wrote p p []
 wrote_none p = record { text = λ xs ys h. subst (λ l. Holds p l ys) (sym (append-nil xs)) h; page = refl }
-
--- a call, from what the sheet answers and leaves
-module _ {V K : Type 0} {gv : _} {gk : _} (A : Alphabet K) (M : V → Model K) (s : Sheet V K gv gk) (t : List K) (work : List ℕ) (e : Event K) where
-  pub letter-call : (x : K) (r : Result Answer Fault) (left : List ℕ) → e ≡ Letter x → r ≡ answered A M s x (length work) (length t) → left ≡ cleared (needs (M s.automaton)) work → letter x work r left ≡ call_on A M s t work e
-  letter-call x r left ee er el =
-      ap (λ q. letter x work q left) er ∙ ap (letter x work (answered A M s x (length work) (length t))) el ∙ sym (ap (call_on A M s t work) ee)
-
-  pub gap-call : (r : Result (Unit {0}) Fault) → e ≡ Gap → r ≡ pauses (contents s) → gap r ≡ call_on A M s t work e
-  gap-call r ee er = ap gap er ∙ sym (ap (call_on A M s t work) ee)
 
 -- the lines and the answer of the latest n calls, with one call more
 module _ {K : Type 0} (A : Alphabet K) (printed : ℕ → ℕ) (n : ℕ) (h : List (Turn K)) (c : Turn K) where

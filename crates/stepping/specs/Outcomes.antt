@@ -1,7 +1,7 @@
 -- What a station file comes to when its trace is followed, and all that is printed of it. Assumes nothing.
 --
 --   Report K                  a file whose trace is followed
---   file_lines, sheet_lines   the lines of the file and of its sheet, before the calls
+--   sheet_lines               the lines of the sheet, before the calls
 --   end_lines A printed s     the text and the five counts of the calls
 --   shown A printed r         all that is printed of a report
 --   reported A printed o      what is printed of an outcome: a report, or the refusal line
@@ -37,7 +37,7 @@ use Rattle.texts.specs.Texts.{reading}
 use Rattle.stations.specs.Stations.{Item, early, headed, ended}
 use Rattle.stations.specs.declared.Kind.{Kind}
 use Rattle.stations.specs.declared.Kind.TheVariants.{Two, Trend, Seepage}
-use Rattle.headings.specs.Headings.{kind_line, limit_line, automaton_line}
+use Rattle.headings.specs.Headings.{heading_lines, automaton_line}
 use Rattle.listings.specs.Listings.{list_model, limited, listed, fresh, and_then}
 use Rattle.sheetlaw.specs.Calls.{tally}
 use Rattle.sheetlaw.specs.Law.{text}
@@ -51,10 +51,6 @@ pub record Report (K : Type 0) : Type 0 where
   pub patterns : ℕ
   pub limit : Option ℕ
   pub steps : Steps K
-
--- the kind, the number of patterns and the run limit
-abbrev pub file_lines : Kind → ℕ → Option ℕ → List ℕ
-file_lines k n r = kind_line k ++ (labelled (codes "patterns: ") n (10 ∷ []) ++ limit_line r)
 
 -- the automaton's count of states and its memory, the window length, and the letters and gaps of the trace
 abbrev pub sheet_lines : ℕ → ℕ → ℕ → ℕ → List ℕ
@@ -74,7 +70,7 @@ end_lines A printed s = text_lines A printed (text s.calls s.table) (tally s.mod
 
 abbrev pub shown : {K : Type 0} → Alphabet K → (ℕ → ℕ) → Report K → List ℕ
 shown A printed r =
-    file_lines r.kind r.patterns r.limit ++ (sheet_lines r.steps.model.count r.steps.model.memory r.steps.window r.steps.size
+    heading_lines r.kind r.patterns r.limit ++ (sheet_lines r.steps.model.count r.steps.model.memory r.steps.window r.steps.size
     ++ (step_lines A printed r.steps.calls ++ end_lines A printed r.steps))
 
 module _ {K : Type 0} where

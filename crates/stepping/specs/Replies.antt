@@ -12,7 +12,7 @@
 --   all_taken h           whether all of the calls h are
 use Rattle.std.specs.Prelude.{ℕ, Bool, true, ◌&&◌, List, [], ◌∷◌, ◌++◌, length, is_ok, Ok, Err, codes, Result}
 use Rattle.faults.specs.declared.Fault.{Fault}
-use Rattle.faults.specs.Causes.{layer_byte}
+use Rattle.faults.specs.Causes.{number_of, place_of, layer_byte}
 use Rattle.models.specs.Alphabet.{Alphabet}
 use Rattle.pages.specs.Pages.{labelled}
 use Rattle.sheetlaw.specs.Calls.{Turn, letter, gap}
@@ -20,7 +20,7 @@ use Rattle.sheetlaw.specs.declared.Answer.{Answer}
 use Rattle.sheetlaw.specs.declared.Answer.TheVariants.{Pending, Skipped, Kept}
 
 abbrev pub fault_part : Fault → List ℕ
-fault_part f = labelled (codes " refused: ") f.number (32 ∷ []) ++ (layer_byte f ∷ labelled (32 ∷ []) f.place (10 ∷ []))
+fault_part f = labelled (codes " refused: ") (number_of f) (32 ∷ []) ++ (layer_byte f ∷ labelled (32 ∷ []) (place_of f) (10 ∷ []))
 
 abbrev pub answer_part : Answer → List ℕ
 answer_part Pending = codes " pending\n"

@@ -11,9 +11,9 @@ use sheetlaw::Answer;
 fn show_fault(fault: Fault, page: &mut Page<'_>)
     ensures { Wrote page.old page.new (fault_part fault) }
 {
-    page.labelled(b" refused: ", fault.number as usize, b" ");
+    page.labelled(b" refused: ", fault.number() as usize, b" ");
     page.push(fault.layer_byte());
-    page.labelled(b" ", fault.place, b"\n");
+    page.labelled(b" ", fault.place(), b"\n");
 }
 
 // Writes how many letters were appended for a kept window, and how many of these were filled in.
@@ -52,7 +52,7 @@ fn end_letter(answer: Result<Answer, Fault>, page: &mut Page<'_>) -> bool
     }
 }
 
-// The same of a gap.
+// The same of a gap. One function for both would take a closure that writes, and be no plainer than these two.
 fn end_gap(answer: Result<(), Fault>, page: &mut Page<'_>) -> bool
     ensures page { Wrote page.old page.new (gap_part answer) }
     ensures taken { result ≡ is_ok answer }

@@ -7,5 +7,5 @@ mod report;
 mod settings;
 pub mod trace;
 
-pub use outcome::{Printed, steps_file};
+pub use outcome::steps_file;
 pub use trace::step_through;

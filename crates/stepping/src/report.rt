@@ -1,31 +1,19 @@
 // The lines before and after those of the calls.
 ghost use Rattle.std.specs.Prelude.{take};
 ghost use Rattle.pages.specs.Pages.{Wrote};
-ghost use Rattle.stepping.specs.Outcomes.{file_lines, sheet_lines, count_lines, text_lines};
+ghost use Rattle.stepping.specs.Outcomes.{sheet_lines, count_lines, text_lines};
 
-use headings::{show_automaton, show_kind, show_limit};
+use headings::{Heading, show_automaton, show_letters};
 use letters::{Letter, Printable};
 use pages::Page;
-use rewrites::{front, show_letters};
+use rewrites::front;
 use sheetlaw::Counts;
-use stations::Kind;
 
-// What a file says before its trace: its kind, the number of its patterns, its run limit and its window length.
+// What a file says before its trace: what it says of its automaton, and its window length.
 #[derive(Clone, Copy)]
-pub struct Heading {
-    pub kind: Kind,
-    pub patterns: usize,
-    pub limit: Option<u16>,
+pub struct Settings {
+    pub heading: Heading,
     pub window: u16,
-}
-
-// Writes the lines of the file.
-pub fn show_file(heading: Heading, page: &mut Page<'_>)
-    ensures { Wrote page.old page.new (file_lines heading.kind heading.patterns heading.limit) }
-{
-    show_kind(heading.kind, page);
-    page.labelled(b"patterns: ", heading.patterns, b"\n");
-    show_limit(heading.limit, page);
 }
 
 // Writes the lines of the sheet: the automaton's count of states and its memory, the window length, and the letters and

@@ -1,40 +1,30 @@
-// The automaton that a file's settings make, and its trace followed under it.
-ghost use Rattle.std.specs.Prelude.{◌≡◌, ◌*◌, false, IfOk, if◌then◌else◌, Err, nat_le};
-ghost use Rattle.faults.specs.Causes.{large_pair};
+// The automaton that a file's settings make, and its trace followed under it. `Roomy` is asked for by each function that makes
+// a sheet: it is a fact about a type, and no value could carry it.
+ghost use Rattle.std.specs.Prelude.{◌≡◌, IfOk};
 ghost use Rattle.files.specs.Lines.{items};
-ghost use Rattle.files.specs.Refusals.{refusal_line};
-ghost use Rattle.pages.specs.Pages.{Wrote};
-ghost use Rattle.pairlaw.specs.Pairs.{pair_model};
+ghost use Rattle.listings.specs.Listings.{limited};
 ghost use Rattle.pairs.specs.contracts.Pair.{the_row as pair_row};
 ghost use Rattle.runs.specs.contracts.Run.{the_row as run_row};
 ghost use Rattle.sheets.specs.contracts.sheet.Sheet.{the_row as sheet_row};
 ghost use Rattle.texts.specs.Texts.{reading};
-ghost use Rattle.listings.specs.Listings.{limited};
 ghost use Rattle.rewrites.specs.Fits.{Roomy};
 ghost use Rattle.stepping.specs.Steps.{verdict, admitted, steps};
 ghost use Rattle.stepping.specs.OnSheets.{Fresh};
 ghost use Rattle.stepping.specs.Outcomes.{Told, concluded};
 
-use crate::report::{Heading, show_end, show_file, show_settings};
+use crate::report::{Settings, show_end, show_settings};
 use crate::trace::{check_trace, step_through};
 use automata::Automaton;
 use files::refusals::at_line;
 use files::{Lines, Refusal};
+use headings::show_refusal;
 use letters::{Letter, Printable};
+use listings::Limited;
 use pages::Page;
 use pairs::Pair;
 use runs::Run;
 use sheets::Sheet;
 use stations::tail;
-
-// Writes a refusal; nothing is followed.
-pub(crate) fn show_refusal(refusal: Refusal, page: &mut Page<'_>) -> bool
-    ensures page { Wrote page.old page.new (refusal_line refusal) }
-    ensures answer { result ≡ false }
-{
-    refusal.show(page);
-    false
-}
 
 // Opens a sheet for a trace, once all is judged that can refuse the file: the window length and the memory, the bytes of
 // the trace, and the lines after it.
@@ -59,7 +49,7 @@ where
 
 // Follows a trace on a sheet of its own, and writes every call or the refusal of the file.
 fn step_under<S: Automaton + Drop>(
-    heading: Heading,
+    settings: Settings,
     automaton: S,
     trace: &[u8],
     lines: &mut Lines<'_>,
@@ -70,14 +60,14 @@ fn step_under<S: Automaton + Drop>(
 where
     S::Kind: Printable,
     requires { Roomy (sheet_row S.row S.Kind.row S.Automaton S.Kind.Letter) }
-    ensures { Told S.Kind.Letter.alphabet S.Kind.Printable.printed page.old page.new text.old text.new work.old work.new result (concluded heading.kind heading.patterns heading.limit lines.old.number (items lines.old.rest.now) (steps S.Kind.Letter.alphabet text.old work.old (S.model automaton) heading.window (reading S.Kind.Letter.alphabet S.Kind.Printable.parsed) trace.now)) }
+    ensures { Told S.Kind.Letter.alphabet S.Kind.Printable.printed page.old page.new text.old text.new work.old work.new result (concluded settings.heading.kind settings.heading.patterns settings.heading.limit lines.old.number (items lines.old.rest.now) (steps S.Kind.Letter.alphabet text.old work.old (S.model automaton) settings.window (reading S.Kind.Letter.alphabet S.Kind.Printable.parsed) trace.now)) }
 {
     let states = automaton.states() as usize;
     let memory = automaton.memory() as usize;
-    match admit(automaton, heading.window, trace, lines) {
+    match admit(automaton, settings.window, trace, lines) {
         Ok(mut sheet) => {
-            show_file(heading, page);
-            show_settings(states, memory, heading.window as usize, trace.len(), page);
+            settings.heading.show(page);
+            show_settings(states, memory, settings.window as usize, trace.len(), page);
             let all = step_through(&mut sheet, trace, text, work, page);
             show_end(sheet.close(), text, page);
             all
@@ -86,37 +76,10 @@ where
     }
 }
 
-// The same under two automata at once.
-fn step_both<P: Automaton + Drop, Q: Automaton<Kind = P::Kind> + Drop>(
-    heading: Heading,
-    left: P,
-    right: Q,
-    trace: &[u8],
-    lines: &mut Lines<'_>,
-    text: &mut [P::Kind],
-    work: &mut [u16],
-    page: &mut Page<'_>,
-) -> bool
-where
-    P::Kind: Printable,
-    requires { Roomy (sheet_row (pair_row P.row Q.row) P.Kind.row ⟦<Pair<P, Q> as Automaton>⟧ P.Kind.Letter) }
-    ensures { Told P.Kind.Letter.alphabet P.Kind.Printable.printed page.old page.new text.old text.new work.old work.new result (concluded heading.kind heading.patterns heading.limit lines.old.number (items lines.old.rest.now) (if nat_le ((P.Automaton.model left).count * (Q.Automaton.model right).count) 4096 then steps P.Kind.Letter.alphabet text.old work.old (pair_model (P.Automaton.model left) (Q.Automaton.model right)) heading.window (reading P.Kind.Letter.alphabet P.Kind.Printable.parsed) trace.now else Err (large_pair ((P.Automaton.model left).count * (Q.Automaton.model right).count)))) }
-{
-    match Pair::new(left, right) {
-        Ok(pair) => step_under(heading, pair, trace, lines, text, work, page),
-        Err(fault) => show_refusal(
-            Refusal {
-                fault,
-                line: lines.number(),
-            },
-            page,
-        ),
-    }
-}
-
-// The same under an automaton, and under the run automaton too where there is a limit.
+// The same under `automaton`, and under the run automaton too where there is a limit. It stands alone since the check does
+// not cover a body that keeps a `Limited` on the lent list.
 pub(crate) fn step_limited<P: Automaton + Drop>(
-    heading: Heading,
+    settings: Settings,
     automaton: P,
     trace: &[u8],
     lines: &mut Lines<'_>,
@@ -128,19 +91,19 @@ where
     P::Kind: Printable,
     requires alone { Roomy (sheet_row P.row P.Kind.row P.Automaton P.Kind.Letter) }
     requires paired { Roomy (sheet_row (pair_row P.row (run_row P.Kind.row)) P.Kind.row ⟦<Pair<P, Run<P::Kind>> as Automaton>⟧ P.Kind.Letter) }
-    ensures { Told P.Kind.Letter.alphabet P.Kind.Printable.printed page.old page.new text.old text.new work.old work.new result (concluded heading.kind heading.patterns heading.limit lines.old.number (items lines.old.rest.now) (limited (P.model automaton) P.Kind.Letter.alphabet heading.limit (λ m. steps P.Kind.Letter.alphabet text.old work.old m heading.window (reading P.Kind.Letter.alphabet P.Kind.Printable.parsed) trace.now))) }
+    ensures { Told P.Kind.Letter.alphabet P.Kind.Printable.printed page.old page.new text.old text.new work.old work.new result (concluded settings.heading.kind settings.heading.patterns settings.heading.limit lines.old.number (items lines.old.rest.now) (limited (P.model automaton) P.Kind.Letter.alphabet settings.heading.limit (λ m. steps P.Kind.Letter.alphabet text.old work.old m settings.window (reading P.Kind.Letter.alphabet P.Kind.Printable.parsed) trace.now))) }
 {
-    match heading.limit {
-        Some(r) => match Run::<P::Kind>::new(r) {
-            Ok(run) => step_both(heading, automaton, run, trace, lines, text, work, page),
-            Err(fault) => show_refusal(
-                Refusal {
-                    fault,
-                    line: lines.number(),
-                },
-                page,
-            ),
-        },
-        None => step_under(heading, automaton, trace, lines, text, work, page),
+    match Limited::new(automaton, settings.heading.limit) {
+        Ok(Limited::Alone(automaton)) => {
+            step_under(settings, automaton, trace, lines, text, work, page)
+        }
+        Ok(Limited::Both(pair)) => step_under(settings, pair, trace, lines, text, work, page),
+        Err(fault) => show_refusal(
+            Refusal {
+                fault,
+                line: lines.number(),
+            },
+            page,
+        ),
     }
 }

@@ -4,6 +4,7 @@
 
 #[cfg(test)]
 mod tests {
+    use lent::{LentLetters, LentList};
     use letters::{Flow, Seepage, Trend, Two};
     use lists::Record;
     use std::alloc::Global;
@@ -34,15 +35,19 @@ mod tests {
         let mut out = vec![in heap; b'.'; 1024]?;
         let printed = steps_file(
             input,
-            &mut records,
-            &mut words,
-            &mut two,
-            &mut trend,
-            &mut seepage,
+            &mut LentList {
+                records: &mut records,
+                words: &mut words,
+            },
+            &mut LentLetters {
+                two: &mut two,
+                trend: &mut trend,
+                seepage: &mut seepage,
+            },
             &mut table,
             &mut out,
         );
-        assert_eq!(rt; printed.complete, complete);
+        assert_eq!(rt; printed.done, complete);
         assert_eq!(rt; printed.length, want.len());
         out.truncate(printed.length);
         assert_eq!(rt; out.as_slice(), want);

@@ -1,11 +1,15 @@
-// The tables that the programs lend to the library calls, each allocated once. They are long enough for every file that
-// a program takes.
+// The tables that the programs lend to the library calls, each allocated once, and what the programs on one file share.
+// The tables are long enough for every file that a program takes.
 #![tactic(auto)]
 
 ghost use Rattle.std.specs.Prelude.{◌≡◌, IfOk, vec_len};
 
+pub mod program;
+
+use lent::{LentLetters, LentList};
 use letters::{Flow, Seepage, Trend, Two};
 use lists::Record;
+pub use program::run;
 use std::alloc::{AllocError, Global};
 
 // A record for each state that a list can have, and a word for each of them and each letter of the largest kind.
@@ -14,6 +18,8 @@ pub const RECORDS: usize = 512;
 pub const WORDS: usize = 4096;
 // Four words for each state that an automaton can have.
 pub const WORK: usize = 16384;
+// The letters of the longest text.
+pub const TEXT: usize = 30000;
 
 // The two tables of a list.
 #[derive(Drop)]
@@ -30,9 +36,19 @@ impl Listing {
         let words = vec![in heap; 0u16; WORDS]?;
         Ok(Listing { records, words })
     }
+
+    // The two tables, lent.
+    pub fn lend(&mut self) -> LentList<'_>
+        ensures { (result.records.now ≡ self.old.records.items) × (result.words.now ≡ self.old.words.items) }
+    {
+        LentList {
+            records: &mut self.records,
+            words: &mut self.words,
+        }
+    }
 }
 
-// A table of letters for each kind.
+// A table of letters for each kind: a field each, since they differ in type.
 #[derive(Drop)]
 pub struct Letters {
     pub two: Vec<Two>,
@@ -57,5 +73,16 @@ impl Letters {
             trend,
             seepage,
         })
+    }
+
+    // The three tables, lent.
+    pub fn lend(&mut self) -> LentLetters<'_>
+        ensures { (result.two.now ≡ self.old.two.items) × (result.trend.now ≡ self.old.trend.items) × (result.seepage.now ≡ self.old.seepage.items) }
+    {
+        LentLetters {
+            two: &mut self.two,
+            trend: &mut self.trend,
+            seepage: &mut self.seepage,
+        }
     }
 }

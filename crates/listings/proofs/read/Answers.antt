@@ -12,7 +12,7 @@ pub loop-line-preserved : goal.loop-line-preserved
 loop-line-preserved g c n m ps h =
     let A = g.L.Letter.alphabet in
     let reads = reading A g.L.Printable.parsed in
-    let bytes = c.in-Pattern.bytes.now in
+    let bytes = c.in-Some-Pattern.bytes.now in
     let now = c.loop-line.invariant n m ps h in
     let qs = now.0 in
     let taken : refused c.add_bytes.result ≡ None = search rules in
@@ -27,8 +27,8 @@ loop-line-preserved g c n m ps h =
       ),
     )
 
-pub loop-line-preserved-in-Nothing : goal.loop-line-preserved-in-Nothing
-loop-line-preserved-in-Nothing g c n m ps h = let now = c.loop-line.invariant n m ps h in search rules
+pub loop-line-preserved-in-None : goal.loop-line-preserved-in-None
+loop-line-preserved-in-None g c n m ps h = let now = c.loop-line.invariant n m ps h in search rules
 
 pub returns-in_err-at_line : goal.returns-in_err-at_line
 returns-in_err-at_line g c = record {
@@ -36,8 +36,8 @@ returns-in_err-at_line g c = record {
   left = λ n m ps h. let now = c.loop-line.invariant n m ps h in search rules;
 }
 
-pub returns-in_err-at_line-in-Pattern : goal.returns-in_err-at_line-in-Pattern
-returns-in_err-at_line-in-Pattern g c = record {
+pub returns-in_err-at_line-in-Some-Pattern : goal.returns-in_err-at_line-in-Some-Pattern
+returns-in_err-at_line-in-Some-Pattern g c = record {
   answer = λ n m ps h.
       let now = c.loop-line.invariant n m ps h in
       let cause = c.add_bytes.ensures.cause n m now.0 now.1.0 in
@@ -49,8 +49,8 @@ returns-in_err-at_line-in-Pattern g c = record {
       search rules;
 }
 
-pub returns-in-Trace : goal.returns-in-Trace
-returns-in-Trace g c = record {
+pub returns-in-Some-Trace : goal.returns-in-Some-Trace
+returns-in-Some-Trace g c = record {
   answer = λ n m ps h. let now = c.loop-line.invariant n m ps h in search rules;
   left = λ n m ps h. let now = c.loop-line.invariant n m ps h in search rules;
 }

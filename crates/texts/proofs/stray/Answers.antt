@@ -1,17 +1,11 @@
-use Rattle.std.proofs.Common.{is_some, sym, ap, ◌∙◌, arith, below_more}
+use Rattle.std.proofs.Common.{not, is_some, rules, tests, ◌∙◌}
+use Rattle.std.proofs.lemmas.Iterator.{YieldsList-from_slice}
+use Rattle.std.proofs.lemmas.Iterator.Search.{position_from_yields_List}
 use Rattle.texts.specs.Texts.{reading}
-use Rattle.texts.proofs.Strays.{stray-here, stray-none}
+use Rattle.texts.proofs.Strays.{stray-position}
 use Rattle.texts.proofs.stray.Goals as goal
-
-pub returns-in-None : goal.returns-in-None
-returns-in-None g c =
-    let reads = reading g.L.Letter.alphabet g.L.Printable.parsed in
-    sym (stray-here reads c.loop-i.i c.args.bytes.now c.loop-i-test.true c.loop-i.invariant (sym c.from_byte.ensures ∙ c.in-None.is))
-
-pub loop-i-preserved : goal.loop-i-preserved
-loop-i-preserved g c = below_more _ _ c.loop-i.invariant (ap is_some (sym c.from_byte.ensures ∙ c.in-Some.is))
 
 pub returns : goal.returns
 returns g c =
     let reads = reading g.L.Letter.alphabet g.L.Printable.parsed in
-    sym (stray-none reads c.args.bytes.now (λ k h. c.loop-i.invariant k (omega (arith, c.loop-i-test.false))))
+    position_from_yields_List (λ b. not (is_some (reads b))) _ _ c.position.result c.position.ensures.ran (YieldsList-from_slice _ c.iter.ensures.rest) (λ x b q k. search (rules, tests)) ∙ stray-position reads c.args.bytes.now

@@ -5,11 +5,12 @@ use Rattle.checks.proofs.outcome.check_file.Goals as goal
 pub returns : goal.returns
 returns c =
     let out = c.args.out.now in
-    let text = c.show-passes.ensures.page.text [] out c.new-page.ensures.fresh in
-    let same = c.show-passes.ensures.page.page ∙ c.new-page.ensures.page in
-    let is = c.outcome-outcome.ensures in
+    let text = c.show-done.ensures.page.text [] out c.new-page.ensures.fresh in
+    let same = c.show-done.ensures.page.page ∙ c.new-page.ensures.page in
+    let is = c.outcome-outcome.ensures.answer in
     record {
       out = search rules;
       length = c.used.ensures ∙ text.1 ∙ ap (λ o. min (length (printed o)) (length out)) is;
-      passes = c.show-passes.ensures.passes ∙ ap passed is;
+      passes = c.show-done.ensures.passes ∙ ap passed is;
+      list = c.outcome-outcome.ensures.list;
     }

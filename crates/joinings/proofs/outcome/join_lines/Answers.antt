@@ -3,13 +3,13 @@ use Rattle.files.specs.Lines.{items}
 use Rattle.pages.proofs.Writes.{wrote_is}
 use Rattle.stations.specs.Stations.{headed}
 use Rattle.stations.specs.declared.Kind.TheVariants.{Two, Trend, Seepage}
-use Rattle.joinings.specs.Outcomes.{Tables, printed}
+use Rattle.joinings.specs.Outcomes.{Tables, room, printed}
 use Rattle.joinings.proofs.Heads.{outcome_is}
 use Rattle.joinings.proofs.outcome.join_lines.Goals as goal
 
 pub returns-in-Ok-Two : goal.returns-in-Ok-Two
 returns-in-Ok-Two c =
-    let t : Tables = record { records = length c.args.records.now; words = length c.args.words.now; two = record { letters = length c.args.two_letters.now; text = length c.args.two_text.now }; trend = record { letters = length c.args.trend_letters.now; text = length c.args.trend_text.now }; seepage = record { letters = length c.args.seepage_letters.now; text = length c.args.seepage_text.now }; work = length c.args.work.now } in
+    let t : Tables = record { records = length c.args.tables.now.records.now; words = length c.args.tables.now.words.now; two = room c.args.desks.now.two; trend = room c.args.desks.now.trend; seepage = room c.args.desks.now.seepage; work = length c.args.work.now } in
     let lines = c.header.new.lines in
     let few : length c.args.input.now ≤ 60000 = omega arith in
     let head : headed 1 (items c.args.input.now) ≡ Ok (Two, (lines.number + 1, items lines.rest.now)) = search rules in
@@ -17,11 +17,12 @@ returns-in-Ok-Two c =
     record {
       page = wrote_is _ (ap printed is) c.join_kind.ensures.page;
       joined = c.join_kind.ensures.joined ∙ ap (λ o. is_ok o) is;
+      list = c.join_kind.ensures.list;
     }
 
 pub returns-in-Ok-Trend : goal.returns-in-Ok-Trend
 returns-in-Ok-Trend c =
-    let t : Tables = record { records = length c.args.records.now; words = length c.args.words.now; two = record { letters = length c.args.two_letters.now; text = length c.args.two_text.now }; trend = record { letters = length c.args.trend_letters.now; text = length c.args.trend_text.now }; seepage = record { letters = length c.args.seepage_letters.now; text = length c.args.seepage_text.now }; work = length c.args.work.now } in
+    let t : Tables = record { records = length c.args.tables.now.records.now; words = length c.args.tables.now.words.now; two = room c.args.desks.now.two; trend = room c.args.desks.now.trend; seepage = room c.args.desks.now.seepage; work = length c.args.work.now } in
     let lines = c.header.new.lines in
     let few : length c.args.input.now ≤ 60000 = omega arith in
     let head : headed 1 (items c.args.input.now) ≡ Ok (Trend, (lines.number + 1, items lines.rest.now)) = search rules in
@@ -29,11 +30,12 @@ returns-in-Ok-Trend c =
     record {
       page = wrote_is _ (ap printed is) c.join_kind-in-Ok-Trend.ensures.page;
       joined = c.join_kind-in-Ok-Trend.ensures.joined ∙ ap (λ o. is_ok o) is;
+      list = c.join_kind-in-Ok-Trend.ensures.list;
     }
 
 pub returns-in-Ok-Seepage : goal.returns-in-Ok-Seepage
 returns-in-Ok-Seepage c =
-    let t : Tables = record { records = length c.args.records.now; words = length c.args.words.now; two = record { letters = length c.args.two_letters.now; text = length c.args.two_text.now }; trend = record { letters = length c.args.trend_letters.now; text = length c.args.trend_text.now }; seepage = record { letters = length c.args.seepage_letters.now; text = length c.args.seepage_text.now }; work = length c.args.work.now } in
+    let t : Tables = record { records = length c.args.tables.now.records.now; words = length c.args.tables.now.words.now; two = room c.args.desks.now.two; trend = room c.args.desks.now.trend; seepage = room c.args.desks.now.seepage; work = length c.args.work.now } in
     let lines = c.header.new.lines in
     let few : length c.args.input.now ≤ 60000 = omega arith in
     let head : headed 1 (items c.args.input.now) ≡ Ok (Seepage, (lines.number + 1, items lines.rest.now)) = search rules in
@@ -41,4 +43,5 @@ returns-in-Ok-Seepage c =
     record {
       page = wrote_is _ (ap printed is) c.join_kind-in-Ok-Seepage.ensures.page;
       joined = c.join_kind-in-Ok-Seepage.ensures.joined ∙ ap (λ o. is_ok o) is;
+      list = c.join_kind-in-Ok-Seepage.ensures.list;
     }

@@ -1,4 +1,4 @@
-use Rattle.std.proofs.Common.{is_some, sym, ap, ◌∙◌, arith}
+use Rattle.std.proofs.Common.{is_some, sym, ap, ◌∙◌}
 use Rattle.std.proofs.lemmas.Bool.{and_from, and_left, and_right}
 use Rattle.joins.proofs.Merging.{overlap-hit, overlap_miss, same_parts, serves-rest}
 use Rattle.joins.proofs.overlaps.overlap.Goals as goal
@@ -13,7 +13,7 @@ returns-then-is_some g c =
     let v = c.args.right.now in
     let o = c.loop-shared.shared in
     sym
-    (c.loop-shared.invariant.1
+    (c.loop-shared.invariant
     ∙ overlap-hit A m q u v o c.loop-shared-test.true
     (and_from _ _
     (sym (same_parts A m q u v o) ∙ sym c.same.ensures ∙ c.if-same.true)
@@ -27,13 +27,10 @@ loop-shared-preserved g c =
     let u = c.args.left.now in
     let v = c.args.right.now in
     let o = c.loop-shared.shared in
-    let le = c.loop-shared.invariant.0 in
-    let some = c.loop-shared-test.true in (
-      omega arith,
-      c.loop-shared.invariant.1
-          ∙ overlap_miss A m q u v o some
-          (elim c.else-same.branch [
-            | else-same-via-then-same+else-is_some w ↦ and_right _ _ (sym (serves-rest A m q u v o) ∙ ap is_some (sym w.walk.ensures) ∙ sym w.is_some.ensures ∙ w.if-is_some.false)
-            | else-same-via-else-same w ↦ and_left _ _ (sym (same_parts A m q u v o) ∙ sym c.same.ensures ∙ w.if-same.false)
-          ]),
-    )
+    let some = c.loop-shared-test.true in
+    c.loop-shared.invariant
+    ∙ overlap_miss A m q u v o some
+    (elim c.else-same.branch [
+      | else-same-via-then-same+else-is_some w ↦ and_right _ _ (sym (serves-rest A m q u v o) ∙ ap is_some (sym w.walk.ensures) ∙ sym w.is_some.ensures ∙ w.if-is_some.false)
+      | else-same-via-else-same w ↦ and_left _ _ (sym (same_parts A m q u v o) ∙ sym c.same.ensures ∙ w.if-same.false)
+    ])

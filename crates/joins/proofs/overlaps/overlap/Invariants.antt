@@ -1,4 +1,4 @@
-use Rattle.std.proofs.Common.{◌≡◌, ◌≤◌}
+use Rattle.std.proofs.Common.{◌≡◌}
 use Rattle.joinlaw.specs.Bridges.{overlap}
 use Rattle.joins.proofs.overlaps.overlap.Given as goal
 
@@ -7,7 +7,4 @@ abbrev pub invariant-loop-shared : goal.invariant-loop-shared
 invariant-loop-shared g l =
     let A = g.S.Kind.Letter.alphabet in
     let m = g.S.Automaton.model l.automaton in
-    (l.shared ≤ l.most) × (overlap A m l.state l.left l.right l.most ≡ overlap A m l.state l.left l.right l.shared)
-
-abbrev pub decreases-loop-shared : goal.decreases-loop-shared
-decreases-loop-shared g l = l.shared
+    overlap A m l.state l.left l.right l.most ≡ overlap A m l.state l.left l.right l.shared

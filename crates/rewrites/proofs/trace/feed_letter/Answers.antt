@@ -1,4 +1,5 @@
 use Rattle.std.proofs.Common.{Err, refl, ◌∙◌}
+use Rattle.faults.specs.Causes.{no_letter}
 use Rattle.sheets.specs.Views.{contents}
 use Rattle.rewrites.proofs.Feeding.{letter-fed, none-fed}
 use Rattle.rewrites.proofs.Agreeing.{refusal_agrees, letter_cut}
@@ -27,9 +28,9 @@ returns-in-None g c =
     let m = g.S.Automaton.model c.args.sheet.now.automaton in
     let k = c.args.sheet.now.k in
     let s = contents c.args.sheet.now in
-    let whole = none-fed A parsed m k c.args.place c.args.read s c.args.text.now c.args.work.now c.no_letter.result c.in-None.is c.no_letter.ensures in
+    let whole = none-fed A parsed m k c.args.place c.args.read s c.args.text.now c.args.work.now (no_letter c.args.place) c.in-None.is refl in
     record {
-      fed = letter_cut A parsed m k c.args.place c.args.read s s c.args.text.now c.args.text.now c.args.work.now c.args.work.now (Err c.no_letter.result) whole;
+      fed = letter_cut A parsed m k c.args.place c.args.read s s c.args.text.now c.args.text.now c.args.work.now c.args.work.now (Err (no_letter c.args.place)) whole;
       fed_whole = whole;
       keeps = (refl, refl);
     }

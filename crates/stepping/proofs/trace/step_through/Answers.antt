@@ -1,4 +1,4 @@
-use Rattle.std.proofs.Common.{◌≡◌, ◌+◌, take, sym, refl, ap, ◌∙◌, arith}
+use Rattle.std.proofs.Common.{◌≡◌, ◌+◌, ◌&&◌, take, sym, refl, ap, ◌∙◌, arith}
 use Rattle.std.proofs.lemmas.List.{take_all}
 use Rattle.texts.specs.Texts.{reading}
 use Rattle.stepping.specs.Steps.{events}
@@ -31,8 +31,8 @@ loop-byte-preserved g c =
           let last = w.step-taken.new in
           let now = events-with reads bs i c.loop-byte-test.true e (sym c.read_event.ensures ∙ w.in-Some.is) in
           let past = past_more A printed M s0 t0 w0 p0 (events reads (take i bs)) l.sheet l.text l.work l.page l.place l.all inv e
-          last.sheet last.text last.work last.page w.step-taken.result w.both-all.result (l.place + 1)
-          done.page done.taken done.work done.keeps.0 done.keeps.1 done.stands w.both-all.ensures refl in
+          last.sheet last.text last.work last.page w.step-taken.result (l.all && w.step-taken.result) (l.place + 1)
+          done.page done.taken done.work done.keeps.0 done.keeps.1 done.stands refl refl in
           (past-at A printed M s0 t0 w0 p0 now w.sheet-is w.text-is w.work-is w.page-is w.place-is w.all-is past, omega (arith, w.place-is, c.loop-byte.invariant.1))
       | in_default w ↦
           let now = events-without reads bs i c.loop-byte-test.true (sym c.read_event.ensures ∙ w.in_default.is) in

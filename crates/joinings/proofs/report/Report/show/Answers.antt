@@ -3,4 +3,4 @@ use Rattle.pages.proofs.Writes.{wrote_then}
 use Rattle.joinings.proofs.report.Report.show.Goals as goal
 
 pub returns : goal.returns
-returns g c = wrote_then _ refl c.show_kind.ensures (wrote_then _ refl c.labelled.ensures (wrote_then _ refl c.show_limit.ensures (wrote_then _ refl c.show_automaton.ensures c.show_joined.ensures)))
+returns g c = wrote_then _ refl c.show.ensures (wrote_then _ refl c.show_automaton.ensures c.show_joined.ensures)

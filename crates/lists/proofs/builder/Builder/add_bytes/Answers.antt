@@ -1,20 +1,13 @@
-use Rattle.std.proofs.Common.{ℕ, Option, sym, ap, ◌∙◌}
 use Rattle.texts.specs.Texts.{reading, spelled}
-use Rattle.lists.specs.Reading.{stray_cause}
-use Rattle.lists.specs.Taking.{cause}
-use Rattle.lists.proofs.Spelt.{length-spelled}
+use Rattle.lists.proofs.Adding.{spelt_small}
 use Rattle.lists.proofs.builder.Builder.add_bytes.Goals as goal
 
-pub returns : goal.returns
-returns g c =
-    let A = g.L.Letter.alphabet in
-    let reads = reading A g.L.Printable.parsed in
-    let bytes = c.args.bytes.now in
-    let r = c.in_ok-word.ensures in
-    let p = spelled reads bytes in
-    let long = length-spelled reads bytes r.0 in
-    record {
-      cause = λ n m ps h. c.judge.ensures.cause n m ps p long r.1 h ∙ sym (ap (λ (o : Option ℕ). stray_cause o (cause A n m ps p)) r.0);
-      holds = λ n m ps h. c.judge.ensures.holds n m ps p long r.1 h;
-      same = c.judge.ensures.same;
-    }
+pub judge-requires : goal.judge-requires
+judge-requires g c =
+    let s = c.in_ok-read.ensures in
+    spelt_small g.L.Letter.alphabet g.L.Letter.numbered c.in_ok-read.field-0.first c.in_ok-read.field-0.count (spelled (reading g.L.Letter.alphabet g.L.Printable.parsed) c.args.bytes.now) s.1
+
+pub returns-clause-holds : goal.returns-clause-holds
+returns-clause-holds g c n m ps h =
+    let s = c.in_ok-read.ensures in
+    c.judge.ensures.holds n m ps (spelled (reading g.L.Letter.alphabet g.L.Printable.parsed) c.args.bytes.now) s.1 h

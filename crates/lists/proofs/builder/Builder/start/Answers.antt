@@ -1,8 +1,8 @@
-use Rattle.std.proofs.Common.{◌≡◌, ◌≤◌, [], length, refl, ap, ◌∙◌, arith}
+use Rattle.std.proofs.Common.{◌≡◌, ◌≤◌, [], length, ap, ◌∙◌, arith}
 use Rattle.std.proofs.lemmas.List.{get_or-set_same}
 use Rattle.lists.specs.declared.record.Record.{Record}
 use Rattle.lists.specs.Names.{blank, rec}
-use Rattle.lists.proofs.Starting.{lists-none, places_one}
+use Rattle.lists.proofs.Starting.{lists-none}
 use Rattle.lists.proofs.builder.Builder.start.Given as given
 use Rattle.lists.proofs.builder.Builder.start.Goals as goal
 use Rattle.lists.proofs.builder.Builder.start.Goals.{Joined-records-ge-STATES, then-records-ge-STATES, else-records-ge-STATES}
@@ -14,20 +14,5 @@ bare g c long = elim c.if-records-ge-STATES.branch [
   | else-records-ge-STATES w ↦ absurd (omega (arith, w.if-records-ge-STATES.false, c.if-records-ge-STATES.auto.records))
 ]
 
-pub invariant_of-result : goal.invariant_of-result
-invariant_of-result g c =
-    let none = lists-none c.if-records-ge-STATES.records (bare g c) in
-    record {
-      some = omega arith;
-      few = omega arith;
-      below = λ i pos h. absurd (omega arith);
-      deep = λ i pos h. absurd (omega arith);
-      apart = places_one c.if-records-ge-STATES.records;
-      fits = λ h. absurd (omega arith);
-      small = λ i pos h. absurd (omega arith);
-      held = ∣ ([], none) ∣₁;
-      brief = omega arith;
-    }
-
-pub returns : goal.returns
-returns g c = record { deep = c.if-records-ge-STATES.auto.records; broad = refl; lists = lists-none c.if-records-ge-STATES.records (bare g (goal.at.returns g c).Joined-records-ge-STATES); wide = λ h. absurd (omega arith) }
+pub invariant_of-result-2 : goal.invariant_of-result-2
+invariant_of-result-2 g c = record { fits = λ h. absurd (omega arith); small = λ i pos h. absurd (omega arith); held = ∣ ([], lists-none c.if-records-ge-STATES.records (bare g (goal.at.invariant_of-result-2 g c).Joined-records-ge-STATES)) ∣₁; brief = omega arith }

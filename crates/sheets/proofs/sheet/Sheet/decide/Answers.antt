@@ -1,6 +1,5 @@
-use Rattle.std.proofs.Common.{◌≡◌, true, length, is_some, Err, sym, ap, ◌∙◌, subst, arith}
+use Rattle.std.proofs.Common.{◌≡◌, true, length, is_some, sym, ap, ◌∙◌, subst, arith}
 use Rattle.models.specs.Automaton.{walk, run}
-use Rattle.joins.specs.Queue.{by}
 use Rattle.joins.specs.Ways.{Short, added}
 use Rattle.joins.proofs.Writings.{fit_short, added-few}
 use Rattle.sheetlaw.specs.Calls.{passes}
@@ -16,7 +15,7 @@ returns-then-window-self g c =
     let m = g.S.Automaton.model s.automaton in
     let v = shown c.window-window.result in
     let long = length-shown c.window-window.result in
-    plan_wait A m (by c.args.parents.now) (by c.args.letters.now) s.k c.args.room (contents s) c.args.letter v c.window-window.ensures.letters (omega arith) (omega arith)
+    plan_wait A m s.k c.args.room (contents s) c.args.letter v c.window-window.ensures.letters (omega arith) (omega arith)
 
 pub added-appended-requires : goal.added-appended-requires
 added-appended-requires g c =
@@ -28,7 +27,7 @@ added-appended-requires g c =
     let few = (g.S.Automaton.lawful s.automaton).few in
     let fits = c.window-window.result.fits in
     subst (λ i. Short i c.in-Some.way) long
-    (fit_short A (by c.way_to.new.parents) (by c.way_to.new.letters) m.count v c.in-Some.way c.in-Some.ensures.1 (omega arith))
+    (fit_short A v c.in-Some.way c.in-Some.ensures.1 (omega arith))
 
 pub returns-then-end-room : goal.returns-then-end-room
 returns-then-end-room g c =
@@ -36,15 +35,12 @@ returns-then-end-room g c =
     let s = c.args.self.now in
     let m = g.S.Automaton.model s.automaton in
     let v = shown c.window-window.result in
-    let p = by c.way_to.new.parents in
-    let l = by c.way_to.new.letters in
     let long = length-shown c.window-window.result in
     let whole : length v ≡ s.k = omega (arith, c.window-window.ensures.held.0, c.if-window-self.false) in
     let walked : c.walk.result ≡ run m v = c.walk.ensures ∙ ap (λ q. walk m.next q c.letters.result.now) c.first.ensures ∙ ap (run m) c.letters.ensures in
     let passing : passes m v ≡ true = ap is_some (sym walked) ∙ c.if-is_none.ensures in
     let long-is : c.added-appended.result ≡ added (length v) c.in-Some.way = c.added-appended.ensures ∙ ap (λ i. added i c.in-Some.way) (sym long) in
-    plan_long A m p l s.k c.args.room (contents s) c.args.letter v c.window-window.ensures.letters (omega arith) whole passing c.in-Some.way c.in-Some.ensures c.added-appended.result long-is c.if-end-room.true
-    ∙ ap Err (sym c.short_text.ensures)
+    plan_long A m s.k c.args.room (contents s) c.args.letter v c.window-window.ensures.letters (omega arith) whole passing c.in-Some.way c.in-Some.ensures c.added-appended.result long-is c.if-end-room.true
 
 pub returns : goal.returns
 returns g c =
@@ -52,14 +48,12 @@ returns g c =
     let s = c.args.self.now in
     let m = g.S.Automaton.model s.automaton in
     let v = shown c.window-window.result in
-    let p = by c.way_to.new.parents in
-    let l = by c.way_to.new.letters in
     let long = length-shown c.window-window.result in
     let whole : length v ≡ s.k = omega (arith, c.window-window.ensures.held.0, c.if-window-self.false) in
     let walked : c.walk.result ≡ run m v = c.walk.ensures ∙ ap (λ q. walk m.next q c.letters.result.now) c.first.ensures ∙ ap (run m) c.letters.ensures in
     let passing : passes m v ≡ true = ap is_some (sym walked) ∙ c.if-is_none.ensures in
     let long-is : c.added-appended.result ≡ added (length v) c.in-Some.way = c.added-appended.ensures ∙ ap (λ i. added i c.in-Some.way) (sym long) in
-    plan_keep A m p l s.k c.args.room (contents s) c.args.letter v c.window-window.ensures.letters (omega arith) whole passing c.in-Some.way c.in-Some.ensures c.added-appended.result long-is c.if-end-room.false
+    plan_keep A m s.k c.args.room (contents s) c.args.letter v c.window-window.ensures.letters (omega arith) whole passing c.in-Some.way c.in-Some.ensures c.added-appended.result long-is c.if-end-room.false
 
 pub overflow_add-end : goal.overflow_add-end
 overflow_add-end g c =
@@ -71,7 +65,7 @@ overflow_add-end g c =
     let few = (g.S.Automaton.lawful s.automaton).few in
     let fits = c.window-window.result.fits in
     let is = c.added-appended.ensures ∙ ap (λ i. added i c.in-Some.way) (sym long) in
-    let most = added-few A (by c.way_to.new.parents) (by c.way_to.new.letters) m.count v c.in-Some.way c.in-Some.ensures.1 in
+    let most = added-few A v c.in-Some.way c.in-Some.ensures.1 in
     let early = c.if-self-ge-MOST.false in
     let written = s.written in
     omega arith

@@ -1,4 +1,4 @@
-use Rattle.std.proofs.Common.{◌<◌, ◌≤◌, ◌∷◌, Ok, Err, sym, refl, ap, ◌∙◌, subst, arith}
+use Rattle.std.proofs.Common.{◌<◌, ◌≤◌, ◌∷◌, Ok, sym, refl, ◌∙◌, subst, arith}
 use Rattle.sheetlaw.specs.Calls.{gap}
 use Rattle.sheetlaw.specs.Law.{Followed}
 use Rattle.sheetlaw.specs.NextRow.{row_of}
@@ -11,7 +11,7 @@ pub returns-then-self-ge-MOST : goal.returns-then-self-ge-MOST
 returns-then-self-ge-MOST g c =
     let s = contents c.args.self.now in
     let h : 50000 ≤ c.args.self.now.taken = omega arith in
-    let a = ap Err c.full_sheet.ensures ∙ sym (pauses-full s h) in
+    let a = sym (pauses-full s h) in
     record {
       answers = a;
       leaves = gap-full s h;

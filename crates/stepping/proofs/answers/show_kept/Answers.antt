@@ -1,6 +1,0 @@
-use Rattle.std.proofs.Common.{refl}
-use Rattle.pages.proofs.Writes.{wrote_then}
-use Rattle.stepping.proofs.answers.show_kept.Goals as goal
-
-pub returns : goal.returns
-returns c = wrote_then _ refl c.labelled.ensures c.labelled-2.ensures

@@ -1,6 +1,0 @@
-use Rattle.std.proofs.Common.{refl}
-use Rattle.pages.proofs.Writes.{wrote_then}
-use Rattle.stepping.proofs.report.show_file.Goals as goal
-
-pub returns : goal.returns
-returns c = wrote_then _ refl c.show_kind.ensures (wrote_then _ refl c.labelled.ensures c.show_limit.ensures)
