@@ -1,5 +1,6 @@
 // A program on one file: it reads the file, answers it on a page, and prints the page.
-ghost use Rattle.std.specs.Prelude.{◌≡◌, if◌then◌else◌};
+ghost use Rattle.pages.specs.declared.printed.Printed.{Printed};
+ghost use Rattle.std.specs.Prelude.{◌≡◌, IfOk, if◌then◌else◌};
 
 use files::INPUT;
 use pages::Printed;
@@ -25,6 +26,7 @@ pub fn run<F: FnOnce(&[u8], &mut [u8]) -> Printed>(
     answer: F,
 ) -> io::Result<ExitCode>
     requires { F.IsAlwaysCallable answer }
+    ensures { IfOk result (λ code. (bytes : _) × (out : _) × (printed : Printed) × (left : _) × F.post answer bytes out printed left × (code ≡ (if printed.done then ExitCode.SUCCESS else ExitCode.FAILURE))) }
 {
     let heap = rt.alloc();
     let mut input = Vec::new(heap);
