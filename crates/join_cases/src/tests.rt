@@ -1,7 +1,7 @@
 // Joins, their refusals, and both tables afterwards.
 use crate::automatons::*;
 use faults::Fault;
-use joins::{Joined, join};
+use joins::{Joined, Search, Trail, Way, join};
 use letters::{Trend, Two};
 use std::test::Fail;
 
@@ -164,5 +164,32 @@ fn long_contexts(rt: HostRuntime) -> Result<(), Fail> {
         join(&Shut, &letters[0..50000], &letters, &mut text, &mut work),
         Err(Fault::LongContext(50001))
     );
+    Ok(())
+}
+
+// A search over four tables that are lent apart, and a way over tables that come from no search.
+#[test]
+fn tables_lent_apart_and_a_way_of_ones_own(rt: HostRuntime) -> Result<(), Fail> {
+    let mut seen = [65535u16; 2];
+    let mut queue = [65535u16; 2];
+    let mut parents = [65535u16; 2];
+    let mut letters = [65535u16; 2];
+    let search = Search::apart(&NO_AB, &mut seen, &mut queue, &mut parents, &mut letters);
+    let way = search.find(&[Two::B, Two::A], &[Two::A, Two::A], 1);
+    assert_eq!(rt;
+        way.map(|way| way.joined(3)),
+        Some(Joined {
+            length: 3,
+            overlap: 1,
+            filled: 0,
+        })
+    );
+    let trail = Trail {
+        parents: &[0, 0, 1],
+        letters: &[0, 1, 0],
+        place: 2,
+        filled: 5000,
+    };
+    assert_eq!(rt; Way::Filling(trail).added(3), 5003);
     Ok(())
 }

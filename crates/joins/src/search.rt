@@ -38,6 +38,20 @@ impl<'a, 'w, S: Automaton> Search<'a, 'w, S> {
         let (seen, rest) = words.split_at_mut(n);
         let (queue, rest) = rest.split_at_mut(n);
         let (parents, letters) = rest.split_at_mut(n);
+        Search::apart(automaton, seen, queue, parents, letters)
+    }
+
+    // Over four tables that are lent apart, with a word for each state.
+    pub fn apart(
+        automaton: &'a S,
+        seen: &'w mut [u16],
+        queue: &'w mut [u16],
+        parents: &'w mut [u16],
+        letters: &'w mut [u16],
+    ) -> Search<'a, 'w, S>
+        requires { (length seen.old ≡ (S.model automaton.now).count) × (length queue.old ≡ (S.model automaton.now).count) × (length parents.old ≡ (S.model automaton.now).count) × (length letters.old ≡ (S.model automaton.now).count) }
+        ensures { result.automaton.now ≡ automaton.now }
+    {
         Search {
             automaton,
             seen,
@@ -106,7 +120,7 @@ impl<'a, 'w, S: Automaton> Search<'a, 'w, S> {
     // stand side by side, since a struct of them would be made for this call alone.
     pub fn find(mut self, left: &[S::Kind], right: &[S::Kind], most: usize) -> Option<Way<'w>>
         requires { (most ≤ length left.now) × (most ≤ length right.now) }
-        ensures { WayIs S.Kind.Letter.alphabet (length right.now) result (bridge S.Kind.Letter.alphabet (S.model self.entry.automaton.now) (all_letters S.Kind.Letter.alphabet) left.now right.now most) }
+        ensures { WayIs S.Kind.Letter.alphabet (S.model self.entry.automaton.now).count (length right.now) result (bridge S.Kind.Letter.alphabet (S.model self.entry.automaton.now) (all_letters S.Kind.Letter.alphabet) left.now right.now most) }
     {
         let state = walk(self.automaton, self.automaton.first(), left)?;
         if let Some(shared) = overlap(self.automaton, state, left, right, most) {

@@ -1,21 +1,20 @@
 // The letters that lead to a place in the queue of a search: how many there are, and writing them.
 ghost use Rattle.std.specs.Prelude.{◌≡◌, ℕ, ◌+◌, ◌<◌, ◌≤◌, ◌++◌, length, slice_index};
 ghost use Rattle.joins.specs.Queue.{by};
-ghost use Rattle.joins.specs.Spelling.{numbers, spelling, Traced};
+ghost use Rattle.joins.specs.Spelling.{numbers, spelling};
+ghost use Rattle.joins.specs.Ways.{Spells};
 
 use letters::Letter;
 
-// The tables of a search that are left for a place in its queue, and how many letters lead to it.
+// The tables of a search that are left for a place in its queue, and how many letters lead to it. By place in the queue:
+// the place of the state that led to it, and the number of the letter between them. Tables that anyone may bring: that
+// they spell as many letters is asked for where these are written.
 #[derive(Clone, Copy)]
 pub struct Trail<'w> {
-    parents: &'w [u16],
-    letters: &'w [u16],
-    place: u16,
-    pub(crate) filled: usize,
-    ghost even: { length letters.now ≡ length parents.now },
-    ghost within: { place < length parents.now },
-    ghost few: { filled < 4096 },
-    ghost long: { filled ≡ length (numbers (by parents.now) (by letters.now) place) },
+    pub parents: &'w [u16],
+    pub letters: &'w [u16],
+    pub place: u16,
+    pub filled: usize,
 }
 
 // How many letters lead from the first place to `place`. The loop goes from parent to parent, along no index.
@@ -36,11 +35,10 @@ fn depth(parents: &[u16], place: u16) -> usize
 impl<'w> Trail<'w> {
     // To a place in the queue.
     pub(crate) fn to(parents: &'w [u16], letters: &'w [u16], place: u16) -> Trail<'w>
-        requires even { length letters.now ≡ length parents.now }
         requires within { place < length parents.now }
-        requires few { length parents.now ≤ 4096 }
         requires earlier { (i : ℕ) → 0 < i → i ≤ place → slice_index parents.now i < i }
-        ensures { (result.parents.now ≡ parents.now) × (result.letters.now ≡ letters.now) × (result.place ≡ place) }
+        ensures tables { (result.parents.now ≡ parents.now) × (result.letters.now ≡ letters.now) × (result.place ≡ place) }
+        ensures long { result.filled ≡ length (numbers (by parents.now) (by letters.now) place) }
     {
         Trail {
             parents,
@@ -53,7 +51,7 @@ impl<'w> Trail<'w> {
     // Writes the letters, from the last to the first; `out` has room for just these. It is written by index, since what is
     // written through `iter_mut` is not known afterwards.
     fn spell<K: Letter>(self, out: &mut [K])
-        requires traced { Traced K.alphabet.letter (by self.parents.now) (by self.letters.now) self.place }
+        requires spells { Spells K.alphabet self }
         requires room { length out.old ≡ self.filled }
         ensures { out.new ≡ spelling K.alphabet.letter (by self.entry.parents.now) (by self.entry.letters.now) self.entry.place }
     {
@@ -68,7 +66,7 @@ impl<'w> Trail<'w> {
 
     // Writes the letters, and then `right`; `out` has room for just these.
     pub(crate) fn write<K: Letter>(self, right: &[K], out: &mut [K])
-        requires traced { Traced K.alphabet.letter (by self.parents.now) (by self.letters.now) self.place }
+        requires spells { Spells K.alphabet self }
         requires room { length out.old ≡ self.filled + length right.now }
         ensures { out.new ≡ spelling K.alphabet.letter (by self.entry.parents.now) (by self.entry.letters.now) self.entry.place ++ right.now }
     {

@@ -4,7 +4,7 @@ use Rattle.models.specs.Alphabet.{Alphabet}
 use Rattle.joinlaw.specs.Bridges.{row}
 use Rattle.joins.specs.Ways.{told}
 use Rattle.joins.specs.declared.ways.Way.{Way}
-use Rattle.joins.proofs.Writings.{added-row, added-few}
+use Rattle.joins.proofs.Writings.{added-row}
 use Rattle.sheetlaw.specs.Step.{Contents, window, answer, count, carry}
 use Rattle.sheetlaw.specs.declared.Answer.TheVariants.{Kept}
 use Rattle.sheetlaw.specs.declared.Counts.{Counts}
@@ -15,7 +15,7 @@ use Rattle.sheets.specs.declared.plan.Plan.TheVariants.{Wait, Skip, Keep}
 pub ready_few : {K : Type 0} (A : Alphabet K) (k : ℕ) (w : List K) (end room : ℕ) (o : Plan) → Ready A k w end room o → k ≤ 12 → Few o
 ready_few A k w end room Wait r i = tt
 ready_few A k w end room Skip r i = tt
-ready_few A k w end room (Keep way a) (long, fit, is, fits) i = let few = added-few A w way fit in omega arith
+ready_few A k w end room (Keep way a) (long, fit, is, fits, few) i = omega arith
 
 -- one more letter or gap is taken, so the counts stay within their bounds
 module _ (k : ℕ) (c d : Counts) (o : Plan) (t u : ℕ) (is : d ≡ counted k c o) (more : u ≡ t + 1) where

@@ -7,7 +7,7 @@ use Rattle.models.specs.Automaton.{Model}
 use Rattle.joinlaw.specs.Bridges.{Bridge, row}
 use Rattle.joins.specs.Ways.{told, added, Fit, WayIs}
 use Rattle.joins.specs.declared.ways.Way.{Way}
-use Rattle.joins.proofs.Writings.{added-row}
+use Rattle.joins.proofs.Writings.{added-row, added-few}
 use Rattle.sheetlaw.specs.Calls.{passes}
 use Rattle.sheetlaw.specs.Step.{Contents, keep, window, needs, row_to, decide}
 use Rattle.sheetlaw.specs.NextRow.{appended_by, row_of}
@@ -24,9 +24,9 @@ pub never_both : (b : Bool) → b ≡ true → b ≡ false → ⊥
 never_both b t f = let z : ◌≡◌ {A = ℕ} 0 1 = cc in omega arith
 
 -- a bridge that was found is the row
-pub way_row : {K : Type 0} (A : Alphabet K) (w : List K) (o : Option Way) (b : Option (Bridge K)) → WayIs A (length w) o b → RowIs A w o (appended_by b w)
-way_row A w (Some way) b (e, f) = (ap (λ c. appended_by c w) e, f)
-way_row A w None b e = ap (λ c. appended_by c w) e
+pub way_row : {K : Type 0} (A : Alphabet K) (n : ℕ) (w : List K) (o : Option Way) (b : Option (Bridge K)) → n ≤ 4096 → WayIs A n (length w) o b → RowIs A w o (appended_by b w)
+way_row A n w (Some way) b le (e, f, i) = let few = added-few A w n way f i in (ap (λ c. appended_by c w) e, f, omega arith)
+way_row A n w None b le e = ap (λ c. appended_by c w) e
 
 module _ {K : Type 0} (A : Alphabet K) (m : Model K) (k room : ℕ) (s : Contents K) (x : K) (v : List K) (is : v ≡ window k s x) (early : s.taken < 50000) where
   pub plan_wait : length v < k → PlanIs A k (window k s x) s.counts.text room (Ok Wait) (decide m k (row_of A m) (needs m) room s x)
@@ -54,7 +54,7 @@ module _ {K : Type 0} (A : Alphabet K) (m : Model K) (k room : ℕ) (s : Content
 
     pub plan_keep : s.counts.text + a ≤ room → PlanIs A k (window k s x) s.counts.text room (Ok (Keep way a)) (decide m k (row_of A m) (needs m) room s x)
     plan_keep le =
-        subst (λ w. (decide m k (row_of A m) (needs m) room s x ≡ Ok (keep w (row (told A way) w))) × ((length w ≡ k) × Fit A (length w) way × (a ≡ added (length w) way) × (s.counts.text + a ≤ room))) is (
+        subst (λ w. (decide m k (row_of A m) (needs m) room s x ≡ Ok (keep w (row (told A way) w))) × ((length w ≡ k) × Fit A (length w) way × (a ≡ added (length w) way) × (s.counts.text + a ≤ room) × (a ≤ 4096 + length w))) is (
           decide-keep m k (row_of A m) (needs m) room s x (omega arith) early whole passes_now (row (told A way) v) here (subst (λ i. i ≤ room) (sym end_row) le) ∙ ap (λ w. Ok (keep w (row (told A way) v))) (sym is),
-          (long, told-row.1, a-is, le),
+          (long, told-row.1, a-is, le, subst (λ i. i ≤ 4096 + length v) (sym a-is) told-row.2),
         )

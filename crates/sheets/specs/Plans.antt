@@ -2,9 +2,10 @@
 --
 --   planned A w o          the outcome that the plan o tells, for the window w
 --   Ready .. o             the plan o can be carried out: for a window w where k letters make one, in a text table with so
---                          much room, from the place end on
+--                          much room, from the place end on; a search fills in fewer than 4,096 letters
 --   PlanIs .. r d          r tells the decision d, and can be carried out; or it is refused as d is
---   RowIs A w r o          r tells the row o to the window w, and can be written; or there is none
+--   RowIs A w r o          r tells the row o to the window w, which is no longer than that, and can be written; or there is
+--                          none
 --   counted k c o          the counts c after the plan o
 --   moved k s e            the contents s after the letter or gap e, before anything is kept or counted
 use Rattle.std.specs.Prelude.{◌≡◌, ℕ, ◌+◌, ◌-◌, ◌<◌, ◌≤◌, List, [], length, Some, None, Ok, Err, Option, Result}
@@ -29,14 +30,14 @@ module _ {K : Type 0} (A : Alphabet K) where
   abbrev pub Ready : (k : ℕ) → List K → (end room : ℕ) → Plan → Type 0
   Ready k w end room Wait = length w < k
   Ready k w end room Skip = length w ≡ k
-  Ready k w end room (Keep way a) = (length w ≡ k) × Fit A (length w) way × (a ≡ added (length w) way) × (end + a ≤ room)
+  Ready k w end room (Keep way a) = (length w ≡ k) × Fit A (length w) way × (a ≡ added (length w) way) × (end + a ≤ room) × (a ≤ 4096 + length w)
 
   abbrev pub PlanIs : (k : ℕ) → List K → (end room : ℕ) → Result Plan Fault → Result (Outcome K) Fault → Type 0
   PlanIs k w end room (Ok o) d = (d ≡ Ok (planned w o)) × Ready k w end room o
   PlanIs k w end room (Err f) d = d ≡ Err f
 
   abbrev pub RowIs : List K → Option Way → Option (List K) → Type 0
-  RowIs w (Some way) o = (o ≡ Some (row (told A way) w)) × Fit A (length w) way
+  RowIs w (Some way) o = (o ≡ Some (row (told A way) w)) × Fit A (length w) way × (added (length w) way ≤ 4096 + length w)
   RowIs w None o = o ≡ None
 
 abbrev pub counted : ℕ → Counts → Plan → Counts

@@ -1,4 +1,4 @@
-use Rattle.std.proofs.Common.{◌≡◌, Some, None, sym, ap, ◌∙◌, arith}
+use Rattle.std.proofs.Common.{◌≡◌, ◌<◌, length, Some, None, refl, sym, ap, ◌∙◌, arith}
 use Rattle.models.specs.Automaton.{walk, run}
 use Rattle.joinlaw.specs.Words.{letters}
 use Rattle.joinlaw.specs.Bridges.{filled}
@@ -7,7 +7,7 @@ use Rattle.joinlaw.proofs.Bridging.{bridge-stopped, bridge-overlap, bridge-filli
 use Rattle.joinlaw.proofs.Paths.{walk-stays}
 use Rattle.joins.specs.Queue.{by}
 use Rattle.joins.proofs.Spellings.{all_picked, found-filling, nothing-filling}
-use Rattle.joins.proofs.Traces.{found-traced}
+use Rattle.joins.proofs.Traces.{found-traced, numbers-few, length-spelling}
 use Rattle.joins.proofs.search.Search.find.Goals as goal
 
 pub returns-in_err-state : goal.returns-in_err-state
@@ -28,7 +28,7 @@ returns-in-Some g c =
     let e = bridge-overlap A m (letters A) u v c.args.most c.in_ok-state.state at c.in-Some.shared (sym c.in-Some.ensures) in
     let le = overlap-most A m (letters A) u v c.args.most c.in_ok-state.state c.in-Some.shared (sym c.in-Some.ensures) in
     let most = c.requires.1 in
-    (e, omega arith)
+    (e, omega arith, tt)
 
 pub explore-requires : goal.explore-requires
 explore-requires g c =
@@ -68,7 +68,15 @@ returns g c =
     let among = walk-stays m lawful u m.start q lawful.begins at in
     let found = c.in_ok-place.ensures.explored in
     let e = found-filling A.number (letters A) A.letter (all_picked A numbered) m numbered.apart (letters_ascend A numbered) lawful v q among _ p l place found in
-    rw (c.to.ensures.0, c.to.ensures.1, c.to.ensures.2) (
+    let same = c.explore.ensures.same in
+    let count : length c.explore.new.self.parents.now ≡ m.count = c.explore.new.self.long_parents ∙ ap (λ a. (g.S.Automaton.model a).count) same in
+    let even : length c.explore.new.self.letters.now ≡ length c.explore.new.self.parents.now = c.explore.new.self.long_letters ∙ sym c.explore.new.self.long_parents in
+    let within : place < m.count = c.in_ok-place.ensures.within place refl in
+    let traced = found-traced A.letter m _ q _ p l place found in
+    let few = numbers-few p l place in
+    let long = length-spelling A.letter p l place traced in
+    rw (c.to.ensures.tables.0, c.to.ensures.tables.1, c.to.ensures.tables.2, c.to.ensures.long) (
       bridge-filling A m (letters A) u v c.args.most q at (sym c.in_default.ensures) ∙ ap filled e,
-      found-traced A.letter m _ q _ p l place found,
+      record { even = even; within = omega arith; few = omega arith; long = sym long; traced = traced },
+      count,
     )

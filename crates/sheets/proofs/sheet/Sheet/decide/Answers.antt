@@ -1,7 +1,7 @@
 use Rattle.std.proofs.Common.{◌≡◌, true, length, is_some, sym, ap, ◌∙◌, subst, arith}
 use Rattle.models.specs.Automaton.{walk, run}
 use Rattle.joins.specs.Ways.{Short, added}
-use Rattle.joins.proofs.Writings.{fit_short, added-few}
+use Rattle.joins.proofs.Writings.{fit_short}
 use Rattle.sheetlaw.specs.Calls.{passes}
 use Rattle.sheets.specs.Stages.{shown}
 use Rattle.sheets.specs.Views.{contents}
@@ -27,7 +27,7 @@ added-appended-requires g c =
     let few = (g.S.Automaton.lawful s.automaton).few in
     let fits = c.window-window.result.fits in
     subst (λ i. Short i c.in-Some.way) long
-    (fit_short A v c.in-Some.way c.in-Some.ensures.1 (omega arith))
+    (fit_short A v c.in-Some.way c.in-Some.ensures.1 (let most = c.in-Some.ensures.2 in omega arith))
 
 pub returns-then-end-room : goal.returns-then-end-room
 returns-then-end-room g c =
@@ -65,7 +65,7 @@ overflow_add-end g c =
     let few = (g.S.Automaton.lawful s.automaton).few in
     let fits = c.window-window.result.fits in
     let is = c.added-appended.ensures ∙ ap (λ i. added i c.in-Some.way) (sym long) in
-    let most = added-few A v c.in-Some.way c.in-Some.ensures.1 in
+    let most = c.in-Some.ensures.2 in
     let early = c.if-self-ge-MOST.false in
     let written = s.written in
     omega arith

@@ -29,11 +29,12 @@ returns-in-Some g c =
     let long : s.k - 1 ≡ length w - 1 = ap (λ i. i - 1) (sym c.requires.whole ∙ sym (length-shown c.args.window.now)) in
     let v = c.letters.result.now in
     let r = c.letters-in-Some.result.now in
-    let here : WayIs A (length r) c.find.result (bridge A m (letters A) v r (s.k - 1)) =
-    subst (λ a. WayIs A (length r) c.find.result (bridge A (g.S.Automaton.model a) (letters A) v r (s.k - 1))) c.over-search.ensures c.find.ensures in
-    let found : WayIs A (length w) c.find.result (next_row A m u w) =
-    subst (λ z. WayIs A (length z) c.find.result (next_row A m u z)) c.letters-in-Some.ensures
-    (subst (λ z. WayIs A (length r) c.find.result (next_row A m z r)) c.letters.ensures
-    (subst (λ i. WayIs A (length r) c.find.result (bridge A m (letters A) v r i)) (long ∙ ap (λ z. length z - 1) (sym c.letters-in-Some.ensures)) here)) in
+    let few = (g.S.Automaton.lawful s.automaton).few in
+    let here : WayIs A m.count (length r) c.find.result (bridge A m (letters A) v r (s.k - 1)) =
+    subst (λ a. WayIs A (g.S.Automaton.model a).count (length r) c.find.result (bridge A (g.S.Automaton.model a) (letters A) v r (s.k - 1))) c.over-search.ensures c.find.ensures in
+    let found : WayIs A m.count (length w) c.find.result (next_row A m u w) =
+    subst (λ z. WayIs A m.count (length z) c.find.result (next_row A m u z)) c.letters-in-Some.ensures
+    (subst (λ z. WayIs A m.count (length r) c.find.result (next_row A m z r)) c.letters.ensures
+    (subst (λ i. WayIs A m.count (length r) c.find.result (bridge A m (letters A) v r i)) (long ∙ ap (λ z. length z - 1) (sym c.letters-in-Some.ensures)) here)) in
     let latest : Some u ≡ _ = c.in-Some.ensures.window in
-    subst (λ o. RowIs A w c.find.result (row_to (row_of A m) o w)) latest (way_row A w c.find.result (next_row A m u w) found)
+    subst (λ o. RowIs A w c.find.result (row_to (row_of A m) o w)) latest (way_row A m.count w c.find.result (next_row A m u w) few found)
