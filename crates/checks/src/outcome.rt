@@ -12,7 +12,7 @@ use headings::{Heading, show_refusal};
 use lent::LentList;
 use letters::{Letter, Printable, Seepage, Trend, Two};
 use listings::read;
-use lists::Builder;
+use lists::{Builder, Record};
 use pages::{Page, Printed};
 use stations::{Kind, early, header, tail};
 
@@ -22,12 +22,12 @@ use stations::{Kind, early, header, tail};
 fn check_body<L: Printable>(
     kind: Kind,
     lines: &mut Lines<'_>,
-    tables: &mut LentList<'_>,
+    records: &mut [Record],
+    words: &mut [u16],
 ) -> Result<Report, Refusal>
-    ensures answer { result ≡ body kind L.Letter.alphabet L.Printable.parsed (length tables.old.records.now) (length tables.old.words.now) (lines.old.number + 1) (items lines.old.rest.now) }
-    ensures list { SameList tables.old tables.new }
+    ensures { result ≡ body kind L.Letter.alphabet L.Printable.parsed (length records.old) (length words.old) (lines.old.number + 1) (items lines.old.rest.now) }
 {
-    let mut list = Builder::<L>::start(tables.records, tables.words);
+    let mut list = Builder::<L>::start(records, words);
     let preface = read(lines, &mut list)?;
     let listed = list.finish();
     let heading = Heading {
@@ -54,9 +54,14 @@ fn outcome(input: &[u8], tables: &mut LentList<'_>) -> Result<Report, Refusal>
     }
     let mut lines = Lines::new(input);
     match header(&mut lines)? {
-        Kind::Two => check_body::<Two>(Kind::Two, &mut lines, tables),
-        Kind::Trend => check_body::<Trend>(Kind::Trend, &mut lines, tables),
-        Kind::Seepage => check_body::<Seepage>(Kind::Seepage, &mut lines, tables),
+        Kind::Two => check_body::<Two>(Kind::Two, &mut lines, tables.records, tables.words),
+        Kind::Trend => check_body::<Trend>(Kind::Trend, &mut lines, tables.records, tables.words),
+        Kind::Seepage => check_body::<Seepage>(
+            Kind::Seepage,
+            &mut lines,
+            tables.records,
+            tables.words,
+        ),
     }
 }
 

@@ -3,10 +3,12 @@
 --   Room           how many letters the tables of a kind hold: the contexts' letters, and the text
 --   room d         the room of the code's two tables
 --   Tables         how long the lent tables are: the list's records and words, the work table, and the room of each kind
+--   SameDesk a b   the desk b lends the same slices as the desk a, as long as they were, whatever they hold
+--   SameDesks a b  the same of the desks of all kinds
 --   reported r     what the code's report on a file of one kind says
 --   outcome t bs   the answer for the file bs on the tables t, or the first refusal in file order
 --   printed r      what is printed of an outcome: the answer, or the refusal line
-use Rattle.std.specs.Prelude.{ℕ, cond, List, length, Ok, Err, Option, Result, nat_lt}
+use Rattle.std.specs.Prelude.{◌≡◌, ℕ, cond, List, length, Ok, Err, Option, Result, nat_lt}
 use Rattle.models.specs.Alphabet.{Alphabet}
 use Rattle.letters.specs.Two.{two_alphabet, two_printed, two_parsed}
 use Rattle.letters.specs.Trends.{trend_alphabet, trend_printed, trend_parsed}
@@ -23,6 +25,7 @@ use Rattle.listings.specs.Bodies.{body}
 use Rattle.joinings.specs.Findings.{settled}
 use Rattle.joinings.specs.Reports.{Answer, answer_of, answered, shown}
 use Rattle.joinings.specs.declared.outcome.Desk.{Desk}
+use Rattle.joinings.specs.declared.outcome.Desks.{Desks}
 use Rattle.joinings.specs.declared.report.Report.{Report}
 
 pub record Room : Type 0 where
@@ -31,6 +34,16 @@ pub record Room : Type 0 where
 
 abbrev pub room : {K : Type 0} → Desk K → Room
 room d = record { letters = length d.letters.now; text = length d.text.now }
+
+abbrev pub SameDesk : {K : Type 0} → Desk K → Desk K → Type 0
+SameDesk a b =
+    (b.letters.ghost_name ≡ a.letters.ghost_name)
+    × (b.text.ghost_name ≡ a.text.ghost_name)
+    × (length b.letters.now ≡ length a.letters.now)
+    × (length b.text.now ≡ length a.text.now)
+
+abbrev pub SameDesks : Desks → Desks → Type 0
+SameDesks a b = SameDesk a.two b.two × SameDesk a.trend b.trend × SameDesk a.seepage b.seepage
 
 pub record Tables : Type 0 where
   pub records : ℕ

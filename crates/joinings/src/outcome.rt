@@ -2,7 +2,7 @@
 ghost use Rattle.std.specs.Prelude.{◌≡◌, ◌+◌, min, length, is_ok};
 ghost use Rattle.files.specs.Lines.{items};
 ghost use Rattle.pages.specs.Pages.{over, Wrote};
-ghost use Rattle.joinings.specs.Outcomes.{room, reported, joined_body, outcome as outcome_of, printed};
+ghost use Rattle.joinings.specs.Outcomes.{room, SameDesk, SameDesks, reported, joined_body, outcome as outcome_of, printed};
 ghost use Rattle.lent.specs.Lent.{SameList};
 
 use crate::finding::settle;
@@ -13,7 +13,7 @@ use headings::{Heading, show_refusal};
 use lent::{LentLetters, LentList};
 use letters::{Letter, Printable, Seepage, Trend, Two};
 use listings::read;
-use lists::Builder;
+use lists::{Builder, Record};
 use pages::{Page, Printed};
 use stations::{Kind, early, header, tail};
 
@@ -71,15 +71,15 @@ impl<'a> Desks<'a> {
 fn join_body<'a, L: Printable>(
     kind: Kind,
     lines: &mut Lines<'_>,
-    tables: &mut LentList<'_>,
+    records: &mut [Record],
+    words: &mut [u16],
     letters: &mut [L],
     text: &'a mut [L],
     work: &mut [u16],
 ) -> Result<Report<'a, L>, Refusal>
-    ensures answer { reported L.Letter.alphabet L.Printable.printed result ≡ joined_body kind L.Letter.alphabet L.Printable.printed L.Printable.parsed (length tables.old.records.now) (length tables.old.words.now) (record { letters = length letters.old; text = length text.old }) (length work.old) (lines.old.number + 1) (items lines.old.rest.now) }
-    ensures list { SameList tables.old tables.new }
+    ensures { reported L.Letter.alphabet L.Printable.printed result ≡ joined_body kind L.Letter.alphabet L.Printable.printed L.Printable.parsed (length records.old) (length words.old) (record { letters = length letters.old; text = length text.old }) (length work.old) (lines.old.number + 1) (items lines.old.rest.now) }
 {
-    let mut list = Builder::<L>::start(tables.records, tables.words);
+    let mut list = Builder::<L>::start(records, words);
     let preface = read(lines, &mut list)?;
     let listed = list.finish();
     let heading = Heading {
@@ -95,7 +95,31 @@ fn join_body<'a, L: Printable>(
     Ok(Report { heading, finding })
 }
 
-// Joins by a file of the kind `L`, writes what is to be printed, and answers whether the contexts were joined.
+// Joins by a file of the kind `L`, writes what is to be printed, and answers whether the contexts were joined. It takes the slices
+// apart, so that they are as long afterwards by their type.
+fn join_apart<L: Printable>(
+    kind: Kind,
+    lines: &mut Lines<'_>,
+    records: &mut [Record],
+    words: &mut [u16],
+    letters: &mut [L],
+    text: &mut [L],
+    work: &mut [u16],
+    page: &mut Page<'_>,
+) -> bool
+    ensures page { Wrote page.old page.new (printed (joined_body kind L.Letter.alphabet L.Printable.printed L.Printable.parsed (length records.old) (length words.old) (record { letters = length letters.old; text = length text.old }) (length work.old) (lines.old.number + 1) (items lines.old.rest.now))) }
+    ensures joined { result ≡ is_ok (joined_body kind L.Letter.alphabet L.Printable.printed L.Printable.parsed (length records.old) (length words.old) (record { letters = length letters.old; text = length text.old }) (length work.old) (lines.old.number + 1) (items lines.old.rest.now)) }
+{
+    match join_body(kind, lines, records, words, letters, text, work) {
+        Ok(report) => {
+            report.show(page);
+            true
+        }
+        Err(refusal) => show_refusal(refusal, page),
+    }
+}
+
+// The same on lent tables.
 fn join_kind<L: Printable>(
     kind: Kind,
     lines: &mut Lines<'_>,
@@ -107,14 +131,18 @@ fn join_kind<L: Printable>(
     ensures page { Wrote page.old page.new (printed (joined_body kind L.Letter.alphabet L.Printable.printed L.Printable.parsed (length tables.old.records.now) (length tables.old.words.now) (room desk.old) (length work.old) (lines.old.number + 1) (items lines.old.rest.now))) }
     ensures joined { result ≡ is_ok (joined_body kind L.Letter.alphabet L.Printable.printed L.Printable.parsed (length tables.old.records.now) (length tables.old.words.now) (room desk.old) (length work.old) (lines.old.number + 1) (items lines.old.rest.now)) }
     ensures list { SameList tables.old tables.new }
+    ensures desk { SameDesk desk.old desk.new }
 {
-    match join_body(kind, lines, tables, desk.letters, desk.text, work) {
-        Ok(report) => {
-            report.show(page);
-            true
-        }
-        Err(refusal) => show_refusal(refusal, page),
-    }
+    join_apart(
+        kind,
+        lines,
+        tables.records,
+        tables.words,
+        desk.letters,
+        desk.text,
+        work,
+        page,
+    )
 }
 
 // Joins by a file, writes what is to be printed, and answers whether the contexts were joined.
@@ -129,6 +157,7 @@ fn join_lines(
     ensures page { Wrote page.old page.new (printed (outcome_of (record { records = length tables.old.records.now; words = length tables.old.words.now; two = room desks.old.two; trend = room desks.old.trend; seepage = room desks.old.seepage; work = length work.old }) input.now)) }
     ensures joined { result ≡ is_ok (outcome_of (record { records = length tables.old.records.now; words = length tables.old.words.now; two = room desks.old.two; trend = room desks.old.trend; seepage = room desks.old.seepage; work = length work.old }) input.now) }
     ensures list { SameList tables.old tables.new }
+    ensures desks { SameDesks desks.old desks.new }
 {
     if input.len() > INPUT {
         return show_refusal(early(), page);
@@ -177,6 +206,7 @@ pub fn join_file(
     ensures length { result.length ≡ min (length (printed (outcome_of (record { records = length tables.old.records.now; words = length tables.old.words.now; two = room desks.old.two; trend = room desks.old.trend; seepage = room desks.old.seepage; work = length work.old }) input.now))) (length out.old) }
     ensures joined { result.done ≡ is_ok (outcome_of (record { records = length tables.old.records.now; words = length tables.old.words.now; two = room desks.old.two; trend = room desks.old.trend; seepage = room desks.old.seepage; work = length work.old }) input.now) }
     ensures list { SameList tables.old tables.new }
+    ensures desks { SameDesks desks.old desks.new }
 {
     let mut page = Page::new(out);
     let done = join_lines(input, tables, desks, work, &mut page);

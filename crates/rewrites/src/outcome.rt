@@ -21,7 +21,7 @@ use headings::show_refusal;
 use lent::{LentLetters, LentList};
 use letters::{Letter, Printable, Seepage, Trend, Two};
 use listings::read;
-use lists::{Builder, Listed};
+use lists::{Builder, Listed, Record};
 use pages::{Page, Printed};
 use pairs::Pair;
 use runs::Run;
@@ -35,17 +35,17 @@ pub const WINDOW: u16 = 4;
 // It begins as every program does, in four lines that name all that a function for them would have to give back.
 fn body<L: Printable>(
     lines: &mut Lines<'_>,
-    tables: &mut LentList<'_>,
+    records: &mut [Record],
+    words: &mut [u16],
     text: &mut [L],
     work: &mut [u16],
 ) -> Result<Counts, Refusal>
     requires alone { Roomy (alone L.row ⟦<Listed<'static, L> as Automaton>⟧ L.Letter) }
     requires paired { Roomy (paired L.row ⟦<Pair<Listed<'static, L>, Run<L>> as Automaton>⟧ L.Letter) }
-    ensures told { told L.Letter.alphabet.number L.Printable.printed result text.new ≡ body_of L.Letter.alphabet L.Printable.parsed L.Printable.printed (length tables.old.records.now) (length tables.old.words.now) (length work.old) text.old (lines.old.number + 1) (items lines.old.rest.now) }
-    ensures left { left_as result text.new work.new ≡ body_whole L.Letter.alphabet L.Printable.parsed (length tables.old.records.now) (length tables.old.words.now) text.old work.old (lines.old.number + 1) (items lines.old.rest.now) }
-    ensures list { SameList tables.old tables.new }
+    ensures told { told L.Letter.alphabet.number L.Printable.printed result text.new ≡ body_of L.Letter.alphabet L.Printable.parsed L.Printable.printed (length records.old) (length words.old) (length work.old) text.old (lines.old.number + 1) (items lines.old.rest.now) }
+    ensures left { left_as result text.new work.new ≡ body_whole L.Letter.alphabet L.Printable.parsed (length records.old) (length words.old) text.old work.old (lines.old.number + 1) (items lines.old.rest.now) }
 {
-    let mut list = Builder::<L>::start(tables.records, tables.words);
+    let mut list = Builder::<L>::start(records, words);
     let preface = read(lines, &mut list)?;
     let listed = list.finish();
     let form = preface.form;
@@ -74,7 +74,7 @@ fn print_body<L: Printable>(
     ensures work { work.new ≡ (body_whole L.Letter.alphabet L.Printable.parsed (length tables.old.records.now) (length tables.old.words.now) text.old work.old (lines.old.number + 1) (items lines.old.rest.now)).work }
     ensures list { SameList tables.old tables.new }
 {
-    let answer = body(lines, tables, text, work);
+    let answer = body(lines, tables.records, tables.words, text, work);
     show(answer, text, page)
 }
 

@@ -14,7 +14,7 @@ use headings::{Heading, show_refusal};
 use lent::{LentLetters, LentList};
 use letters::{Letter, Printable, Seepage, Trend, Two};
 use listings::read;
-use lists::{Builder, Listed};
+use lists::{Builder, Listed, Record};
 use pages::{Page, Printed};
 use pairs::Pair;
 use rewrites::outcome::WINDOW;
@@ -27,17 +27,17 @@ use stations::{Kind, early, header};
 fn step_body<L: Printable>(
     kind: Kind,
     lines: &mut Lines<'_>,
-    tables: &mut LentList<'_>,
+    records: &mut [Record],
+    words: &mut [u16],
     text: &mut [L],
     work: &mut [u16],
     page: &mut Page<'_>,
 ) -> bool
     requires alone { Roomy (alone L.row ⟦<Listed<'static, L> as Automaton>⟧ L.Letter) }
     requires paired { Roomy (paired L.row ⟦<Pair<Listed<'static, L>, Run<L>> as Automaton>⟧ L.Letter) }
-    ensures answer { Told L.Letter.alphabet L.Printable.printed page.old page.new text.old text.new work.old work.new result (body kind L.Letter.alphabet L.Printable.parsed (length tables.old.records.now) (length tables.old.words.now) text.old work.old (lines.old.number + 1) (items lines.old.rest.now)) }
-    ensures list { SameList tables.old tables.new }
+    ensures { Told L.Letter.alphabet L.Printable.printed page.old page.new text.old text.new work.old work.new result (body kind L.Letter.alphabet L.Printable.parsed (length records.old) (length words.old) text.old work.old (lines.old.number + 1) (items lines.old.rest.now)) }
 {
-    let mut list = Builder::<L>::start(tables.records, tables.words);
+    let mut list = Builder::<L>::start(records, words);
     match read(lines, &mut list) {
         Ok(preface) => {
             let listed = list.finish();
@@ -78,12 +78,29 @@ fn step_lines(
     }
     let mut lines = Lines::new(input);
     match header(&mut lines) {
-        Ok(Kind::Two) => step_body(Kind::Two, &mut lines, tables, texts.two, work, page),
-        Ok(Kind::Trend) => step_body(Kind::Trend, &mut lines, tables, texts.trend, work, page),
+        Ok(Kind::Two) => step_body(
+            Kind::Two,
+            &mut lines,
+            tables.records,
+            tables.words,
+            texts.two,
+            work,
+            page,
+        ),
+        Ok(Kind::Trend) => step_body(
+            Kind::Trend,
+            &mut lines,
+            tables.records,
+            tables.words,
+            texts.trend,
+            work,
+            page,
+        ),
         Ok(Kind::Seepage) => step_body(
             Kind::Seepage,
             &mut lines,
-            tables,
+            tables.records,
+            tables.words,
             texts.seepage,
             work,
             page,

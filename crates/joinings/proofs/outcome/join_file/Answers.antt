@@ -11,4 +11,5 @@ returns c =
       length = c.used.ensures ∙ text.1;
       joined = c.join_lines-done.ensures.joined;
       list = c.join_lines-done.ensures.list;
+      desks = c.join_lines-done.ensures.desks;
     }

@@ -18,6 +18,7 @@ returns-in-Ok-Two c =
       page = wrote_is _ (ap printed is) c.join_kind.ensures.page;
       joined = c.join_kind.ensures.joined ∙ ap (λ o. is_ok o) is;
       list = c.join_kind.ensures.list;
+      desks = search rules;
     }
 
 pub returns-in-Ok-Trend : goal.returns-in-Ok-Trend
@@ -31,6 +32,7 @@ returns-in-Ok-Trend c =
       page = wrote_is _ (ap printed is) c.join_kind-in-Ok-Trend.ensures.page;
       joined = c.join_kind-in-Ok-Trend.ensures.joined ∙ ap (λ o. is_ok o) is;
       list = c.join_kind-in-Ok-Trend.ensures.list;
+      desks = search rules;
     }
 
 pub returns-in-Ok-Seepage : goal.returns-in-Ok-Seepage
@@ -44,4 +46,5 @@ returns-in-Ok-Seepage c =
       page = wrote_is _ (ap printed is) c.join_kind-in-Ok-Seepage.ensures.page;
       joined = c.join_kind-in-Ok-Seepage.ensures.joined ∙ ap (λ o. is_ok o) is;
       list = c.join_kind-in-Ok-Seepage.ensures.list;
+      desks = search rules;
     }

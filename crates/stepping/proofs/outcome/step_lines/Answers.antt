@@ -21,8 +21,8 @@ returns-in-Ok-Two c =
     let lines = c.header.new.lines in
     let few : length bs ≤ 60000 = omega arith in
     let head : headed 1 (items bs) ≡ Ok (Two, (lines.number + 1, items lines.rest.now)) = search rules in
-    let filed = filed_as (outcome_is n w work a t q bs Two (lines.number + 1) (items lines.rest.now) few head) (filed_two a t q (body Two two_alphabet two_parsed n w a work (lines.number + 1) (items lines.rest.now)) c.step_body.ensures.answer) in
-    record { page = filed.page; complete = filed.complete; two = filed.two; trend = filed.trend; seepage = filed.seepage; lent = (refl, refl, refl); work = filed.work; law = filed.law; list = (search rules) }
+    let filed = filed_as (outcome_is n w work a t q bs Two (lines.number + 1) (items lines.rest.now) few head) (filed_two a t q (body Two two_alphabet two_parsed n w a work (lines.number + 1) (items lines.rest.now)) c.step_body.ensures) in
+    record { page = filed.page; complete = filed.complete; two = filed.two; trend = filed.trend; seepage = filed.seepage; lent = (search rules); work = filed.work; law = filed.law; list = (search rules) }
 
 pub returns-in-Ok-Trend : goal.returns-in-Ok-Trend
 returns-in-Ok-Trend c =
@@ -36,8 +36,8 @@ returns-in-Ok-Trend c =
     let lines = c.header.new.lines in
     let few : length bs ≤ 60000 = omega arith in
     let head : headed 1 (items bs) ≡ Ok (Trend, (lines.number + 1, items lines.rest.now)) = search rules in
-    let filed = filed_as (outcome_is n w work a t q bs Trend (lines.number + 1) (items lines.rest.now) few head) (filed_trend a t q (body Trend trend_alphabet trend_parsed n w t work (lines.number + 1) (items lines.rest.now)) c.step_body-in-Ok-Trend.ensures.answer) in
-    record { page = filed.page; complete = filed.complete; two = filed.two; trend = filed.trend; seepage = filed.seepage; lent = (refl, refl, refl); work = filed.work; law = filed.law; list = (search rules) }
+    let filed = filed_as (outcome_is n w work a t q bs Trend (lines.number + 1) (items lines.rest.now) few head) (filed_trend a t q (body Trend trend_alphabet trend_parsed n w t work (lines.number + 1) (items lines.rest.now)) c.step_body-in-Ok-Trend.ensures) in
+    record { page = filed.page; complete = filed.complete; two = filed.two; trend = filed.trend; seepage = filed.seepage; lent = (search rules); work = filed.work; law = filed.law; list = (search rules) }
 
 pub returns-in-Ok-Seepage : goal.returns-in-Ok-Seepage
 returns-in-Ok-Seepage c =
@@ -51,5 +51,5 @@ returns-in-Ok-Seepage c =
     let lines = c.header.new.lines in
     let few : length bs ≤ 60000 = omega arith in
     let head : headed 1 (items bs) ≡ Ok (Seepage, (lines.number + 1, items lines.rest.now)) = search rules in
-    let filed = filed_as (outcome_is n w work a t q bs Seepage (lines.number + 1) (items lines.rest.now) few head) (filed_seepage a t q (body Seepage seepage_alphabet seepage_parsed n w q work (lines.number + 1) (items lines.rest.now)) c.step_body-in-Ok-Seepage.ensures.answer) in
-    record { page = filed.page; complete = filed.complete; two = filed.two; trend = filed.trend; seepage = filed.seepage; lent = (refl, refl, refl); work = filed.work; law = filed.law; list = (search rules) }
+    let filed = filed_as (outcome_is n w work a t q bs Seepage (lines.number + 1) (items lines.rest.now) few head) (filed_seepage a t q (body Seepage seepage_alphabet seepage_parsed n w q work (lines.number + 1) (items lines.rest.now)) c.step_body-in-Ok-Seepage.ensures) in
+    record { page = filed.page; complete = filed.complete; two = filed.two; trend = filed.trend; seepage = filed.seepage; lent = (search rules); work = filed.work; law = filed.law; list = (search rules) }
