@@ -10,8 +10,9 @@ use tables::{Listing, run};
 const PAGE: usize = 256;
 
 fn main(rt: HostRuntime) -> io::Result<ExitCode> {
-    let mut list = Listing::new(rt.alloc())?;
+    let heap = rt.alloc();
     run(&rt, PAGE, |input, out| {
-        check_file(input, &mut list.lend(), out)
+        let mut list = Listing::new(heap)?;
+        Ok(check_file(input, &mut list.lend(), out))
     })
 }

@@ -12,18 +12,18 @@ const PAGE: usize = TEXT + 512;
 
 fn main(rt: HostRuntime) -> io::Result<ExitCode> {
     let heap = rt.alloc();
-    let mut list = Listing::new(heap)?;
-    // the contexts have as many letters at most as a file has bytes
-    let mut contexts = Letters::new(heap, INPUT)?;
-    let mut text = Letters::new(heap, TEXT)?;
-    let mut search = vec![in heap; 0u16; WORK]?;
     run(&rt, PAGE, |input, out| {
-        join_file(
+        let mut list = Listing::new(heap)?;
+        // the contexts have as many letters at most as a file has bytes
+        let mut contexts = Letters::new(heap, INPUT)?;
+        let mut text = Letters::new(heap, TEXT)?;
+        let mut search = vec![in heap; 0u16; WORK]?;
+        Ok(join_file(
             input,
             &mut list.lend(),
             &mut Desks::new(contexts.lend(), text.lend()),
             &mut search,
             out,
-        )
+        ))
     })
 }

@@ -12,10 +12,10 @@ const PAGE: usize = 48 * INPUT + TEXT + 512;
 
 fn main(rt: HostRuntime) -> io::Result<ExitCode> {
     let heap = rt.alloc();
-    let mut list = Listing::new(heap)?;
-    let mut text = Letters::new(heap, TEXT)?;
-    let mut search = vec![in heap; 0u16; WORK]?;
     run(&rt, PAGE, |input, out| {
-        steps_file(input, &mut list.lend(), &mut text.lend(), &mut search, out)
+        let mut list = Listing::new(heap)?;
+        let mut text = Letters::new(heap, TEXT)?;
+        let mut search = vec![in heap; 0u16; WORK]?;
+        Ok(steps_file(input, &mut list.lend(), &mut text.lend(), &mut search, out))
     })
 }

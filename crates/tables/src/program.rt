@@ -1,6 +1,6 @@
 // A program on one file: it reads the file, answers it on a page, and prints the page.
 ghost use Rattle.pages.specs.declared.printed.Printed.{Printed};
-ghost use Rattle.std.specs.Prelude.{◌≡◌, IfOk, if◌then◌else◌};
+ghost use Rattle.std.specs.Prelude.{◌≡◌, Ok, IfOk, if◌then◌else◌};
 
 use files::INPUT;
 use pages::Printed;
@@ -19,21 +19,22 @@ fn status(done: bool) -> ExitCode
     }
 }
 
-// Reads a file from standard input, has it answered on a page of `size` bytes, and prints what was written.
-pub fn run<F: FnOnce(&[u8], &mut [u8]) -> Printed>(
+// Reads a file from standard input, has it answered on a page of `size` bytes, and prints what was written. The answer may
+// want memory, since its tables are made once the file is read.
+pub fn run<F: FnOnce(&[u8], &mut [u8]) -> io::Result<Printed>>(
     rt: &HostRuntime,
     size: usize,
     answer: F,
 ) -> io::Result<ExitCode>
     requires { F.IsAlwaysCallable answer }
-    ensures { IfOk result (λ code. (bytes : _) × (out : _) × (printed : Printed) × (left : _) × F.post answer bytes out printed left × (code ≡ (if printed.done then ExitCode.SUCCESS else ExitCode.FAILURE))) }
+    ensures { IfOk result (λ code. (bytes : _) × (out : _) × (printed : Printed) × (left : _) × F.post answer bytes out (Ok printed) left × (code ≡ (if printed.done then ExitCode.SUCCESS else ExitCode.FAILURE))) }
 {
     let heap = rt.alloc();
     let mut input = Vec::new(heap);
     // one byte more than a file may have, so that a longer one is seen to be longer
     rt.stdin().take(INPUT as u64 + 1).read_to_end(&mut input)?;
     let mut out = vec![in heap; 0u8; size]?;
-    let Printed { length, done } = answer(&input, &mut out);
+    let Printed { length, done } = answer(&input, &mut out)?;
     out.truncate(length);
     rt.stdout().write_all(&out)?;
     Ok(status(done))
