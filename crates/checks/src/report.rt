@@ -46,7 +46,8 @@ where
 }
 
 // Checks `text` by `automaton`, and by the run automaton too where there is a limit. It stands alone since the check does
-// not cover a body that keeps a `Limited` on the lent list.
+// not cover a body that keeps a `Limited` on the lent list, and is not inlined since the walk is slower where more is at hand.
+#[inline(never)]
 pub fn judge_limited<P: Automaton + Drop>(
     automaton: P,
     limit: Option<u16>,

@@ -26,14 +26,17 @@ pub struct Preface<'a> {
     pub trace: &'a [u8],
 }
 
-// What the next line hands on.
+// What the next line hands on. Inlined, since a file of many remarks took half as long again with a call.
+#[inline(always)]
 fn next_part<'a>(form: &mut Form, line: Result<Line<'a>, Fault>) -> Result<Option<Part<'a>>, Fault>
     ensures { elim result [ Ok p ↦ bind (meant line.entry) (take_line form.old) ≡ Ok (form.new, handed p) | Err f ↦ bind (meant line.entry) (take_line form.old) ≡ Err f ] }
 {
     form.take(line?)
 }
 
-// Reads up to the trace, and takes the patterns into `list`. A refusal leaves in the list what it took up to there.
+// Reads up to the trace, and takes the patterns into `list`. A refusal leaves in the list what it took up to there. Not inlined,
+// since the walk over a text was slower beside it in one function.
+#[inline(never)]
 pub fn read<'a, L: Printable>(
     lines: &mut Lines<'a>,
     list: &mut Builder<'_, L>,
