@@ -5,8 +5,9 @@ use Rattle.faults.specs.Causes.{short_text}
 use Rattle.models.specs.Alphabet.{Alphabet}
 use Rattle.models.specs.Automaton.{Model}
 use Rattle.joinlaw.specs.Bridges.{Bridge, row}
-use Rattle.joins.specs.Ways.{told, added, Fit, WayIs}
+use Rattle.joins.specs.Ways.{told, added, Fit, Within, WayIs}
 use Rattle.joins.specs.declared.ways.Way.{Way}
+use Rattle.joins.specs.declared.ways.Way.TheVariants.{Overlap, Filling}
 use Rattle.joins.proofs.Writings.{added-row, added-few}
 use Rattle.sheetlaw.specs.Calls.{passes}
 use Rattle.sheetlaw.specs.Step.{Contents, keep, window, needs, row_to, decide}
@@ -27,6 +28,15 @@ never_both b t f = let z : ◌≡◌ {A = ℕ} 0 1 = cc in omega arith
 pub way_row : {K : Type 0} (A : Alphabet K) (n : ℕ) (w : List K) (o : Option Way) (b : Option (Bridge K)) → n ≤ 4096 → WayIs A n (length w) o b → RowIs A w o (appended_by b w)
 way_row A n w (Some way) b le (e, f, i) = let few = added-few A w n way f i in (ap (λ c. appended_by c w) e, f, omega arith)
 way_row A n w None b le e = ap (λ c. appended_by c w) e
+
+-- a search fills in fewer letters than its tables have places
+way_few : {K : Type 0} (A : Alphabet K) (n : ℕ) (w : List K) (way : Way) → n ≤ 4096 → Fit A (length w) way → Within n way → added (length w) way < 4096 + length w
+way_few A n w (Overlap o) le f i = omega arith
+way_few A n w (Filling t) le f i = omega (arith, f.few, i)
+
+pub found_few : {K : Type 0} (A : Alphabet K) (n : ℕ) (w : List K) (o : Option Way) (b : Option (Bridge K)) → n ≤ 4096 → WayIs A n (length w) o b
+    → (way : Way) → o ≡ Some way → added (length w) way < 4096 + length w
+found_few A n w o b le found way is = let f = subst (λ y. WayIs A n (length w) y b) is found in way_few A n w way le f.1 f.2
 
 module _ {K : Type 0} (A : Alphabet K) (m : Model K) (k room : ℕ) (s : Contents K) (x : K) (v : List K) (is : v ≡ window k s x) (early : s.taken < 50000) where
   pub plan_wait : length v < k → PlanIs A k (window k s x) s.counts.text room (Ok Wait) (decide m k (row_of A m) (needs m) room s x)

@@ -2,7 +2,7 @@
 --
 --   planned A w o          the outcome that the plan o tells, for the window w
 --   Ready .. o             the plan o can be carried out: for a window w where k letters make one, in a text table with so
---                          much room, from the place end on; a search fills in fewer than 4,096 letters
+--                          much room, from the place end on; at most 4,096 letters are filled in
 --   PlanIs .. r d          r tells the decision d, and can be carried out; or it is refused as d is
 --   RowIs A w r o          r tells the row o to the window w, which is no longer than that, and can be written; or there is
 --                          none

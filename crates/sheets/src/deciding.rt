@@ -1,10 +1,13 @@
 // Deciding what a letter will do: nothing is changed but the words of the search.
-ghost use Rattle.std.specs.Prelude.{◌≡◌, ℕ, ◌*◌, ◌≤◌, true, length};
+ghost use Rattle.std.specs.Prelude.{◌≡◌, ℕ, ◌+◌, ◌*◌, ◌<◌, ◌≤◌, true, length, Some, Ok};
+ghost use Rattle.joins.specs.Ways.{added};
+ghost use Rattle.joins.specs.declared.ways.Way.{Way};
 ghost use Rattle.sheetlaw.specs.Step.{window as window_of, needs, row_to, decide as decide_of};
 ghost use Rattle.sheetlaw.specs.NextRow.{row_of};
 ghost use Rattle.sheets.specs.Stages.{shown, latest, full};
 ghost use Rattle.sheets.specs.Plans.{PlanIs, RowIs};
 ghost use Rattle.sheets.specs.Views.{contents};
+ghost use Rattle.sheets.specs.declared.plan.Plan.TheVariants.{Keep};
 
 use crate::plan::Plan;
 use crate::sheet::Sheet;
@@ -32,11 +35,13 @@ impl<S: Automaton> Sheet<S> {
         window
     }
 
-    // The way from the last kept window to the next one. The first kept window becomes the text.
+    // The way from the last kept window to the next one: fewer letters are filled in than an automaton can have states.
+    // The first kept window becomes the text.
     fn way_to<'w>(&self, window: &Window<S::Kind>, words: &'w mut [u16]) -> Option<Way<'w>>
         requires whole { window.now.held ≡ self.now.k }
         requires work { length words.old ≡ 4 * (S.model self.now.automaton).count }
-        ensures { RowIs S.Kind.Letter.alphabet (shown window.now) result (row_to (row_of S.Kind.Letter.alphabet (S.model self.now.automaton)) (latest self.now.stage) (shown window.now)) }
+        ensures row { RowIs S.Kind.Letter.alphabet (shown window.now) result (row_to (row_of S.Kind.Letter.alphabet (S.model self.now.automaton)) (latest self.now.stage) (shown window.now)) }
+        ensures few { (way : Way) → result ≡ Some way → added (length (shown window.now)) way < 4096 + length (shown window.now) }
     {
         match self.stage.last() {
             Some(last) => {
@@ -55,7 +60,8 @@ impl<S: Automaton> Sheet<S> {
         words: &'w mut [u16],
     ) -> Result<Plan<'w>, Fault>
         requires { length words.old ≡ 4 * (S.model self.now.automaton).count }
-        ensures { PlanIs S.Kind.Letter.alphabet self.now.k (window_of self.now.k (contents self.now) letter) self.now.counts.text room result (decide_of (S.model self.now.automaton) self.now.k (row_of S.Kind.Letter.alphabet (S.model self.now.automaton)) (needs (S.model self.now.automaton)) room (contents self.now) letter) }
+        ensures plan { PlanIs S.Kind.Letter.alphabet self.now.k (window_of self.now.k (contents self.now) letter) self.now.counts.text room result (decide_of (S.model self.now.automaton) self.now.k (row_of S.Kind.Letter.alphabet (S.model self.now.automaton)) (needs (S.model self.now.automaton)) room (contents self.now) letter) }
+        ensures few { (way : Way) (appended : ℕ) → result ≡ Ok (Keep way appended) → appended < 4096 + self.now.k }
     {
         if self.taken >= MOST {
             return Err(Fault::FullSheet);

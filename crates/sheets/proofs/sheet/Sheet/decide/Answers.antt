@@ -8,8 +8,8 @@ use Rattle.sheets.specs.Views.{contents}
 use Rattle.sheets.proofs.Planning.{length-shown, plan_wait, plan_long, plan_keep}
 use Rattle.sheets.proofs.sheet.Sheet.decide.Goals as goal
 
-pub returns-then-window-self : goal.returns-then-window-self
-returns-then-window-self g c =
+pub returns-then-window-self-clause-plan : goal.returns-then-window-self-clause-plan
+returns-then-window-self-clause-plan g c =
     let A = g.S.Kind.Letter.alphabet in
     let s = c.args.self.now in
     let m = g.S.Automaton.model s.automaton in
@@ -27,10 +27,10 @@ added-appended-requires g c =
     let few = (g.S.Automaton.lawful s.automaton).few in
     let fits = c.window-window.result.fits in
     subst (λ i. Short i c.in-Some.way) long
-    (fit_short A v c.in-Some.way c.in-Some.ensures.1 (let most = c.in-Some.ensures.2 in omega arith))
+    (fit_short A v c.in-Some.way c.in-Some.ensures.row.1 (let most = c.in-Some.ensures.row.2 in omega arith))
 
-pub returns-then-end-room : goal.returns-then-end-room
-returns-then-end-room g c =
+pub returns-then-end-room-clause-plan : goal.returns-then-end-room-clause-plan
+returns-then-end-room-clause-plan g c =
     let A = g.S.Kind.Letter.alphabet in
     let s = c.args.self.now in
     let m = g.S.Automaton.model s.automaton in
@@ -40,10 +40,10 @@ returns-then-end-room g c =
     let walked : c.walk.result ≡ run m v = c.walk.ensures ∙ ap (λ q. walk m.next q c.letters.result.now) c.first.ensures ∙ ap (run m) c.letters.ensures in
     let passing : passes m v ≡ true = ap is_some (sym walked) ∙ c.if-is_none.ensures in
     let long-is : c.added-appended.result ≡ added (length v) c.in-Some.way = c.added-appended.ensures ∙ ap (λ i. added i c.in-Some.way) (sym long) in
-    plan_long A m s.k c.args.room (contents s) c.args.letter v c.window-window.ensures.letters (omega arith) whole passing c.in-Some.way c.in-Some.ensures c.added-appended.result long-is c.if-end-room.true
+    plan_long A m s.k c.args.room (contents s) c.args.letter v c.window-window.ensures.letters (omega arith) whole passing c.in-Some.way c.in-Some.ensures.row c.added-appended.result long-is c.if-end-room.true
 
-pub returns : goal.returns
-returns g c =
+pub returns-clause-plan : goal.returns-clause-plan
+returns-clause-plan g c =
     let A = g.S.Kind.Letter.alphabet in
     let s = c.args.self.now in
     let m = g.S.Automaton.model s.automaton in
@@ -53,7 +53,7 @@ returns g c =
     let walked : c.walk.result ≡ run m v = c.walk.ensures ∙ ap (λ q. walk m.next q c.letters.result.now) c.first.ensures ∙ ap (run m) c.letters.ensures in
     let passing : passes m v ≡ true = ap is_some (sym walked) ∙ c.if-is_none.ensures in
     let long-is : c.added-appended.result ≡ added (length v) c.in-Some.way = c.added-appended.ensures ∙ ap (λ i. added i c.in-Some.way) (sym long) in
-    plan_keep A m s.k c.args.room (contents s) c.args.letter v c.window-window.ensures.letters (omega arith) whole passing c.in-Some.way c.in-Some.ensures c.added-appended.result long-is c.if-end-room.false
+    plan_keep A m s.k c.args.room (contents s) c.args.letter v c.window-window.ensures.letters (omega arith) whole passing c.in-Some.way c.in-Some.ensures.row c.added-appended.result long-is c.if-end-room.false
 
 pub overflow_add-end : goal.overflow_add-end
 overflow_add-end g c =
@@ -65,7 +65,7 @@ overflow_add-end g c =
     let few = (g.S.Automaton.lawful s.automaton).few in
     let fits = c.window-window.result.fits in
     let is = c.added-appended.ensures ∙ ap (λ i. added i c.in-Some.way) (sym long) in
-    let most = c.in-Some.ensures.2 in
+    let most = c.in-Some.ensures.row.2 in
     let early = c.if-self-ge-MOST.false in
     let written = s.written in
     omega arith

@@ -6,7 +6,7 @@ use Rattle.sheetlaw.specs.Step.{row_to}
 use Rattle.sheetlaw.specs.NextRow.{row_of}
 use Rattle.sheets.specs.Stages.{shown}
 use Rattle.sheets.specs.Plans.{RowIs}
-use Rattle.sheets.proofs.Planning.{length-shown, way_row}
+use Rattle.sheets.proofs.Planning.{length-shown, way_row, found_few}
 use Rattle.sheets.proofs.sheet.Sheet.way_to.Goals as goal
 
 pub find-requires : goal.find-requires
@@ -37,4 +37,7 @@ returns-in-Some g c =
     (subst (λ z. WayIs A m.count (length r) c.find.result (next_row A m z r)) c.letters.ensures
     (subst (λ i. WayIs A m.count (length r) c.find.result (bridge A m (letters A) v r i)) (long ∙ ap (λ z. length z - 1) (sym c.letters-in-Some.ensures)) here)) in
     let latest : Some u ≡ _ = c.in-Some.ensures.window in
-    subst (λ o. RowIs A w c.find.result (row_to (row_of A m) o w)) latest (way_row A m.count w c.find.result (next_row A m u w) few found)
+    record {
+      row = subst (λ o. RowIs A w c.find.result (row_to (row_of A m) o w)) latest (way_row A m.count w c.find.result (next_row A m u w) few found);
+      few = λ way is. let less = found_few A m.count w c.find.result (next_row A m u w) few found way is in omega arith;
+    }
