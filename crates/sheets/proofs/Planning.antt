@@ -29,7 +29,7 @@ pub way_row : {K : Type 0} (A : Alphabet K) (n : ℕ) (w : List K) (o : Option W
 way_row A n w (Some way) b le (e, f, i) = let few = added-few A w n way f i in (ap (λ c. appended_by c w) e, f, omega arith)
 way_row A n w None b le e = ap (λ c. appended_by c w) e
 
--- a search fills in fewer letters than its tables have places
+-- a search whose tables have at most 4,096 places fills in fewer letters than these
 way_few : {K : Type 0} (A : Alphabet K) (n : ℕ) (w : List K) (way : Way) → n ≤ 4096 → Fit A (length w) way → Within n way → added (length w) way < 4096 + length w
 way_few A n w (Overlap o) le f i = omega arith
 way_few A n w (Filling t) le f i = omega (arith, f.few, i)

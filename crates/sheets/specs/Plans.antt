@@ -4,8 +4,8 @@
 --   Ready .. o             the plan o can be carried out: for a window w where k letters make one, in a text table with so
 --                          much room, from the place end on; at most 4,096 letters are filled in
 --   PlanIs .. r d          r tells the decision d, and can be carried out; or it is refused as d is
---   RowIs A w r o          r tells the row o to the window w, which is no longer than that, and can be written; or there is
---                          none
+--   RowIs A w r o          r tells the row o to the window w, with at most 4,096 letters filled in, and can be written; or
+--                          there is none
 --   counted k c o          the counts c after the plan o
 --   moved k s e            the contents s after the letter or gap e, before anything is kept or counted
 use Rattle.std.specs.Prelude.{◌≡◌, ℕ, ◌+◌, ◌-◌, ◌<◌, ◌≤◌, List, [], length, Some, None, Ok, Err, Option, Result}
